@@ -1,0 +1,13 @@
+pub mod Elements
+pub mod Words
+pub mod Sets
+pub mod Languages
+pub mod Automata
+pub mod Costs
+pub mod Restricting
+pub mod Numbering
+pub mod Shortlex
+pub mod Components
+pub mod Lists
+pub mod Known
+pub mod Realizing
