@@ -1,0 +1,9 @@
+pub mod Queue
+pub mod Comparing
+pub mod Parts
+pub mod Exits
+pub mod Rows
+pub mod Placing
+pub mod Whole
+pub mod Leading
+pub mod Ring

@@ -1,0 +1,7 @@
+use Rattle.std.proofs.Common.{ℕ, ◌<◌, get_or}
+use Rattle.pt_sets.specs.declared.Edge.TheVariants.{Near}
+use Rattle.pt_sets.specs.Components.{StaysWithin}
+use Rattle.pt_code.proofs.tests.stay_within.Given as goal
+
+abbrev pub invariant-loop-edge : goal.invariant-loop-edge
+invariant-loop-edge l = (k : ℕ) → k < l.edge-index → StaysWithin l.states (get_or l.edges k (Near 0))

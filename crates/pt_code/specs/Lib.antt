@@ -1,0 +1,4 @@
+pub mod Component
+pub mod Coding
+pub mod Searching
+pub mod Racing

@@ -1,0 +1,20 @@
+//! Codes of strongly connected components.
+#![tactic(auto)]
+
+mod code;
+mod fault;
+mod least;
+mod piece;
+mod race;
+mod search;
+#[cfg(test)]
+mod tests;
+mod writing;
+
+pub use code::{Code, read_code};
+pub use fault::{CodeFault, NoMemory};
+pub use least::{
+    Coded, codes_read_back_are_their_components, isomorphic_components_have_one_code, least_code,
+};
+pub use piece::{Edges, Outputs, Piece};
+pub use pt_sets::{Edge, Exit, Place};
