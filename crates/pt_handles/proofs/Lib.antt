@@ -1,0 +1,12 @@
+pub mod One
+pub mod InRow
+pub mod Few
+pub mod Parts
+pub mod Placing
+pub mod Filling
+pub mod PartWork
+pub mod Queues
+pub mod Adopted
+pub mod Residuals
+pub mod Rowing
+pub mod Expanded

@@ -1,0 +1,26 @@
+//! Handles of sets over a store.
+#![tactic(auto)]
+
+mod adoption;
+mod compare;
+mod expansion;
+mod fault;
+mod handle;
+mod laws;
+mod pieces;
+mod reaching;
+mod reads;
+
+pub use adoption::adopt;
+pub use compare::same;
+pub use expansion::expand;
+pub use fault::{OpFault, TableFault};
+pub use handle::Handle;
+pub use laws::{
+    equal_sets_are_equal_handles, full_lists_lack, interned_components_are_known,
+    longer_lists_know, longer_lists_lack, reached_handles_are_residuals,
+};
+pub use reads::{output, step};
+
+#[cfg(test)]
+mod tests;
