@@ -1,0 +1,10 @@
+pub mod TreeLaws
+pub mod EntryLaws
+pub mod Unions
+pub mod TruthLaws
+pub mod Sorted
+pub mod TermSums
+pub mod Wide
+pub mod Products
+pub mod SumValues
+pub mod Rows
