@@ -1,0 +1,12 @@
+pub mod Tracks
+pub mod SideLaws
+pub mod PairLaws
+pub mod CombinedSets
+pub mod Finished
+pub mod Keys
+pub mod Visits
+pub mod Moving
+pub mod Wide
+pub mod Turned
+pub mod Expanded
+pub mod Derivations

@@ -1,0 +1,4 @@
+pub mod Operations
+pub mod Derived
+pub mod Pairs
+pub mod Searching

@@ -1,0 +1,138 @@
+// Boolean operations on two sets.
+ghost use Rattle.std.specs.Prelude.{◌≡◌, ◌+◌, ◌<◌, ◌≤◌, IfOk, IfErr, OnOk};
+ghost use Rattle.pt_sets.specs.Sets.{SameSet};
+ghost use Rattle.pt_sets.specs.Automata.{SetOfState};
+ghost use Rattle.pt_sets.specs.Lists.{Extends};
+ghost use Rattle.pt_sets.specs.Restricting.{IsTrackMap, widened};
+ghost use Rattle.pt_sets.specs.Costs.{SamePair, CostIs, CostWithin};
+ghost use Rattle.pt_handles.specs.Handles.{IsKnown, Has, SetOfHandle};
+ghost use Rattle.pt_handles.specs.Refusing.{StatesOnlyAbove, RefusedOnlyWhere};
+ghost use Rattle.pt_product.specs.Operations.{combined};
+
+use crate::search::search_pairs;
+use crate::side::Side;
+use pt_formula::Op;
+use pt_handles::{Handle, OpFault, TableFault, adopt, equal_sets_are_equal_handles};
+use pt_store::{Codes, Interner};
+use pt_tables::Table;
+use std::alloc::Global;
+use std::thread::Threads;
+
+/// A table whose state 0 has the combined set: the vectors of `tracks` components for which the operation holds of
+/// membership of the mapped components in the two sets. A map is strictly increasing: track i of a set is track
+/// `map[i]` of the result.
+///
+/// `States` exactly where there are more pairs of residuals of the two sets than the bound: the states of the table are
+/// these pairs. They are met breadth first and numbered through a hash index, in time and memory of pairs times letters;
+/// the search ends at the first pair past the bound.
+pub fn combine_table<P: Codes>(
+    alloc: Global,
+    pass: &P,
+    op: Op,
+    a: Handle,
+    map_a: &[u8],
+    b: Handle,
+    map_b: &[u8],
+    tracks: u32,
+    bound: u32,
+) -> Result<Table, TableFault>
+    requires known_a { IsKnown P.home (P.lists pass.now) a }
+    requires known_b { IsKnown P.home (P.lists pass.now) b }
+    requires map_a { IsTrackMap a.tracks tracks map_a.now }
+    requires map_b { IsTrackMap b.tracks tracks map_b.now }
+    requires tracks { tracks ≤ 10 }
+    requires some { 0 < bound }
+    requires few { bound ≤ 65536 }
+    ensures tracks { IfOk result (λ table. table.tracks ≡ tracks) }
+    ensures few { IfOk result (λ table. table.states ≤ bound) }
+    ensures set { IfOk result (λ table. SameSet tracks (SetOfState table 0)
+        (combined op (widened map_a.now (SetOfHandle (P.lists pass.now) a)) (widened map_b.now (SetOfHandle (P.lists pass.now) b)))) }
+    ensures cost { IfOk result (λ table. CostIs
+        (SamePair tracks (widened map_a.now (SetOfHandle (P.lists pass.now) a)) (widened map_b.now (SetOfHandle (P.lists pass.now) b))) tracks table.states) }
+    ensures within { IfOk result (λ table. CostWithin
+        (SamePair tracks (widened map_a.now (SetOfHandle (P.lists pass.now) a)) (widened map_b.now (SetOfHandle (P.lists pass.now) b))) tracks bound) }
+    ensures above { IfErr result (StatesOnlyAbove
+        (SamePair tracks (widened map_a.now (SetOfHandle (P.lists pass.now) a)) (widened map_b.now (SetOfHandle (P.lists pass.now) b))) tracks bound) }
+{
+    equal_sets_are_equal_handles();
+    let (side_a, side_b) = sides(alloc, a, map_a, b, map_b, tracks)?;
+    let search = search_pairs(alloc, pass, op, &side_a, &side_b, bound)?;
+    let states = search.pairs.len() as u32;
+    Ok(Table::from_parts(tracks, states, search.outputs, search.edges))
+}
+
+/// The combined set as a known handle.
+///
+/// `States` exactly where there are more pairs of residuals than the bound, `Full` only where that shard is at its limit
+/// and the lists lack the combined set. With each answer the lists extend the old ones, and at most as many codes as the
+/// bound were offered. The time is that of `combine_table` and of `adopt`.
+pub fn combine<R: Threads, I: Interner>(
+    rt: &R,
+    store: &I,
+    alloc: Global,
+    pass: &mut I::Pass,
+    op: Op,
+    a: Handle,
+    map_a: &[u8],
+    b: Handle,
+    map_b: &[u8],
+    tracks: u32,
+    bound: u32,
+) -> Result<Handle, OpFault>
+    requires owned { I.owns store.now pass.old }
+    requires known_a { IsKnown I.Pass.home (I.Pass.lists pass.old) a }
+    requires known_b { IsKnown I.Pass.home (I.Pass.lists pass.old) b }
+    requires map_a { IsTrackMap a.tracks tracks map_a.now }
+    requires map_b { IsTrackMap b.tracks tracks map_b.now }
+    requires tracks { tracks ≤ 10 }
+    requires some { 0 < bound }
+    requires few { bound ≤ 65536 }
+    ensures kept { I.owns store.now pass.new }
+    ensures extends { Extends (I.Pass.lists pass.old) (I.Pass.lists pass.new) }
+    ensures ok { IfOk result (Has I.Pass.home (I.Pass.lists pass.new) tracks
+        (combined op (widened map_a.now (SetOfHandle (I.Pass.lists pass.old) a)) (widened map_b.now (SetOfHandle (I.Pass.lists pass.old) b)))) }
+    ensures within { OnOk result (CostWithin
+        (SamePair tracks (widened map_a.now (SetOfHandle (I.Pass.lists pass.old) a)) (widened map_b.now (SetOfHandle (I.Pass.lists pass.old) b))) tracks bound) }
+    ensures err { IfErr result (RefusedOnlyWhere
+        (SamePair tracks (widened map_a.now (SetOfHandle (I.Pass.lists pass.old) a)) (widened map_b.now (SetOfHandle (I.Pass.lists pass.old) b))) tracks bound
+        I.Pass.home (I.limit_of store.now) (I.Pass.lists pass.new) tracks
+        (combined op (widened map_a.now (SetOfHandle (I.Pass.lists pass.old) a)) (widened map_b.now (SetOfHandle (I.Pass.lists pass.old) b)))) }
+    ensures offers { I.Pass.offered pass.new ≤ I.Pass.offered pass.old + bound }
+{
+    let table = match combine_table(alloc, &*pass, op, a, map_a, b, map_b, tracks, bound) {
+        Ok(table) => table,
+        Err(fault) => return Err(OpFault::from(fault)),
+    };
+    let _valid = table.states();
+    match adopt(rt, store, alloc, pass, &table, 0) {
+        Ok(handle) => Ok(handle),
+        Err(fault) => Err(OpFault::from(fault)),
+    }
+}
+
+/// The two sets over the tracks of the result.
+fn sides(
+    alloc: Global,
+    a: Handle,
+    map_a: &[u8],
+    b: Handle,
+    map_b: &[u8],
+    tracks: u32,
+) -> Result<(Side, Side), TableFault>
+    requires map_a { IsTrackMap a.tracks tracks map_a.now }
+    requires map_b { IsTrackMap b.tracks tracks map_b.now }
+    requires few_a { a.tracks ≤ 10 }
+    requires few_b { b.tracks ≤ 10 }
+    requires tracks { tracks ≤ 10 }
+    ensures a { IfOk result (λ r. r.0 ≡ record { handle = a; map = map_a.now; tracks = tracks }) }
+    ensures b { IfOk result (λ r. r.1 ≡ record { handle = b; map = map_b.now; tracks = tracks }) }
+    ensures err { IfErr result (λ fault. fault ≡ TableFault.NoMemory) }
+{
+    match (
+        Side::new(alloc, a, map_a, tracks),
+        Side::new(alloc, b, map_b, tracks),
+    ) {
+        (Ok(side_a), Ok(side_b)) => Ok((side_a, side_b)),
+        _ => Err(TableFault::NoMemory),
+    }
+}

@@ -1,0 +1,15 @@
+//! Boolean operations on sets, with exact costs.
+#![tactic(auto)]
+
+mod combining;
+mod pair;
+mod search;
+mod side;
+mod unary;
+
+pub use combining::{combine, combine_table};
+pub use pt_formula::Op;
+pub use unary::{complement, widen};
+
+#[cfg(test)]
+mod tests;

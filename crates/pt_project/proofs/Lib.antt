@@ -1,0 +1,13 @@
+pub mod Projected
+pub mod FamilyLaws
+pub mod FinishedFamilies
+pub mod Orders
+pub mod Digits
+pub mod StepLaws
+pub mod Marks
+pub mod Closures
+pub mod Keys
+pub mod FamilyVisits
+pub mod Transfers
+pub mod Moving
+pub mod Rows

@@ -1,0 +1,5 @@
+pub mod Projecting
+pub mod Families
+pub mod Closing
+pub mod Numbered
+pub mod Searching

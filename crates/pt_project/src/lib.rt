@@ -1,0 +1,16 @@
+//! Projection of sets, with exact costs.
+#![tactic(auto)]
+
+mod closing;
+mod families;
+mod family;
+mod laws;
+mod projecting;
+mod search;
+mod sources;
+
+pub use laws::sign_closures_are_projections;
+pub use projecting::{exists, exists_table};
+
+#[cfg(test)]
+mod tests;
