@@ -1,0 +1,12 @@
+pub mod Symbols
+pub mod Tokens
+pub mod Front
+pub mod Told
+pub mod Grammar
+pub mod Names
+pub mod Forms
+pub mod Solutions
+pub mod Atoms
+pub mod Outcome
+pub mod Reading
+pub mod Run
