@@ -84,6 +84,55 @@ fn common_is_none<R: Threads>(rt: &R, alloc: Global) -> Result<bool, Fail> {
     Ok(same(common, none))
 }
 
+/// Whether the first of three components is 0, and the last -1, by an operation over tracks with a gap.
+fn combined_apart<R: Threads>(rt: &R, alloc: Global, op: Op, z: [i128; 3]) -> Result<bool, Fail> {
+    let (store, mut pass) = LocalStore::new(alloc, 1, 100, OneShard)?;
+    let zero = adopt(rt, &store, alloc, &mut pass, &sign_table(alloc, 0)?, 0)?;
+    let minus = adopt(rt, &store, alloc, &mut pass, &sign_table(alloc, 1)?, 0)?;
+    longer_lists_know();
+    let table = combine_table(alloc, &pass, op, zero, &[0], minus, &[2], 3, 4)?;
+    let _valid = table.states();
+    Ok(table.member(0, z.as_slice()))
+}
+
+/// Whether the vector without components is in the set of it and in no set, by an operation.
+fn combined_without_tracks<R: Threads>(rt: &R, alloc: Global, op: Op) -> Result<bool, Fail> {
+    let (store, mut pass) = LocalStore::new(alloc, 1, 100, OneShard)?;
+    let mut builder = Builder::new(alloc, 0)?;
+    let whole = builder.state()?;
+    let none = builder.state()?;
+    builder.edge(whole, 0, whole);
+    builder.edge(none, 0, none);
+    builder.output(whole, 0, true);
+    let table = builder.finish()?;
+    if table.states() < 2 || table.tracks() != 0 {
+        return Err("table")?;
+    }
+    let one = adopt(rt, &store, alloc, &mut pass, &table, 0)?;
+    let other = adopt(rt, &store, alloc, &mut pass, &table, 1)?;
+    longer_lists_know();
+    let combined = combine_table(alloc, &pass, op, one, &[], other, &[], 0, 1)?;
+    let _valid = combined.states();
+    Ok(combined.member(0, &[]))
+}
+
+#[test]
+fn operations_over_other_tracks(rt: HostRuntime) -> Result<(), Fail> {
+    let alloc = rt.alloc();
+    for (z, of_and, of_or) in [
+        ([0, 7, -1], true, true),
+        ([0, -1, 0], false, true),
+        ([1, 0, -1], false, true),
+        ([-1, 0, 0], false, false),
+    ] {
+        assert_eq!(rt; combined_apart(&rt, alloc, Op::And, z)?, of_and);
+        assert_eq!(rt; combined_apart(&rt, alloc, Op::Or, z)?, of_or);
+    }
+    assert!(rt; !combined_without_tracks(&rt, alloc, Op::And)?);
+    assert!(rt; combined_without_tracks(&rt, alloc, Op::Xor)?);
+    Ok(())
+}
+
 #[test]
 fn operations_have_their_members_and_their_cost(rt: HostRuntime) -> Result<(), Fail> {
     let alloc = rt.alloc();
@@ -94,6 +143,7 @@ fn operations_have_their_members_and_their_cost(rt: HostRuntime) -> Result<(), F
         (Op::Xor, [true, true, false]),
     ] {
         assert!(rt; combined_signs(&rt, alloc, op, 4)? == Ok(members));
+        assert!(rt; combined_signs(&rt, alloc, op, 5)? == Ok(members));
         assert!(rt; combined_signs(&rt, alloc, op, 3)? == Err(TableFault::States { bound: 3 }));
     }
     assert!(rt; common_is_none(&rt, alloc)?);
