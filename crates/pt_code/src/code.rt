@@ -85,6 +85,16 @@ impl Code {
         self.numbers[2]
     }
 
+    /// How many exits it has.
+    pub fn exits(&self) -> u32
+        ensures value { result ≡ exit_count self.now }
+        ensures shape { HasShape self.now }
+    {
+        let letters = 1usize << self.numbers[0];
+        let cells = self.numbers[1] as usize * letters;
+        self.numbers[3 + 2 * cells]
+    }
+
     /// The numbers.
     pub fn numbers(&self) -> &[u32]
         ensures { result.now ≡ self.now }

@@ -73,7 +73,7 @@ module _ (home : Home) (lists : Lists) (t s : ℕ) (X Y : VectorSet) (tracks : s
   full-same limit (Full shard count) h = (h.0, h.1, lacks-same limit h.2)
   full-same limit NoMemory h = tt
 
-  pub ok-same : (r : Result Handle StoreFault) → IfOk r (Has home lists s X) → IfOk r (Has home lists t Y)
+  pub ok-same : {E : Type 0} (r : Result Handle E) → IfOk r (Has home lists s X) → IfOk r (Has home lists t Y)
   ok-same (Ok h) is = has-same h is
   ok-same (Err fault) is = is
 

@@ -10,3 +10,6 @@ pub mod Adopted
 pub mod Residuals
 pub mod Rowing
 pub mod Expanded
+pub mod Absent
+pub mod Tested
+pub mod Decided

@@ -5,3 +5,4 @@ pub mod Refusing
 pub mod Rows
 pub mod Adopting
 pub mod Searching
+pub mod Knowing

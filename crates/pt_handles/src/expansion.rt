@@ -19,15 +19,15 @@ use std::collections::HashMap;
 /// Places in a row: the states of each have consecutive numbers, from its offset on.
 #[derive(Drop)]
 pub(crate) struct Row {
-    tracks: u32,
-    root: Place,
-    places: Vec<Place>,
-    offsets: HashMap<Place, u32>,
-    total: u32,
+    pub(crate) tracks: u32,
+    pub(crate) root: Place,
+    pub(crate) places: Vec<Place>,
+    pub(crate) offsets: HashMap<Place, u32>,
+    pub(crate) total: u32,
 }
 
 /// The code at a place.
-fn code_of<P: Codes>(pass: &P, place: Place) -> &Code
+pub(crate) fn code_of<P: Codes>(pass: &P, place: Place) -> &Code
     requires { (code : List ℕ) × (code_at (P.lists pass.now) place ≡ Some code) }
     ensures { result.now ≡ code_or_empty (P.lists pass.now) place }
 {
@@ -60,7 +60,7 @@ fn number<P: Codes>(pass: &P, row: &mut Row, state: Exit) -> Result<u32, AllocEr
 }
 
 /// Where an edge leads from a state of a place.
-fn end_of(place: Place, edge: Edge) -> Exit
+pub(crate) fn end_of(place: Place, edge: Edge) -> Exit
     ensures { result ≡ follow place edge }
 {
     match edge {

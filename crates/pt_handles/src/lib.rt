@@ -4,8 +4,11 @@
 mod adoption;
 mod compare;
 mod expansion;
+mod exploring;
 mod fault;
+mod finding;
 mod handle;
+mod knowing;
 mod laws;
 mod pieces;
 mod reaching;
@@ -16,6 +19,7 @@ pub use compare::same;
 pub use expansion::expand;
 pub use fault::{OpFault, TableFault};
 pub use handle::Handle;
+pub use knowing::knows;
 pub use laws::{
     equal_sets_are_equal_handles, full_lists_lack, interned_components_are_known,
     longer_lists_know, longer_lists_lack, reached_handles_are_residuals,

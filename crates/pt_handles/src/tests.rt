@@ -105,3 +105,22 @@ fn numbers_in_two_orders(rt: HostRuntime) -> Result<(), Fail> {
     }
     Ok(())
 }
+
+#[test]
+fn known_and_made_up_handles(rt: HostRuntime) -> Result<(), Fail> {
+    let alloc = rt.alloc();
+    let (store, mut pass) = LocalStore::new(alloc, 1, 9, OneShard)?;
+    let zero = adopt_number(&rt, alloc, &store, &mut pass, 0)?;
+    assert_eq!(rt; knows(&rt, alloc, &pass, zero)?, true);
+    let place = Place { shard: 0, index: 5 };
+    for handle in [
+        Handle { place, ..zero },
+        Handle { tracks: 2, ..zero },
+        Handle { entry: 1, ..zero },
+    ]
+    .iter()
+    {
+        assert_eq!(rt; knows(&rt, alloc, &pass, *handle)?, false);
+    }
+    Ok(())
+}
