@@ -36,6 +36,14 @@ earlier_children f h i c m =
       | inr e ↦ absurd (subst (λ n. ContainsByRecursion c (children n)) (ap entry_node e) m)
     ]
 
+-- so it is in the front of a formula
+pub earlier_in_front : (f more : List (Node × Position)) → IsFormula (f ++ more) → HasEarlierChildren f
+earlier_in_front f more h i c m =
+    elim (within_or_none f i) [
+      | inl w ↦ earlier_children (f ++ more) h i c (subst (λ n. ContainsByRecursion c (children n)) (sym (node_at-append f more i w)) m)
+      | inr e ↦ absurd (subst (λ n. ContainsByRecursion c (children n)) (ap entry_node e) m)
+    ]
+
 -- the tree of the new node
 pub tree-new : (f : List (Node × Position)) → IsFormula f → (n : Node) (p : Position) → AllByRecursion (λ c. c < length f) (children n) → tree_of (f ++ (n, p) ∷ []) (length f) ≡ node_tree (tree_of f) n
 tree-new f h n p below =

@@ -19,6 +19,7 @@ pub fn appended_nodes_change_no_earlier_one()
     ensures position { (f more : List (NodeValue × PositionValue)) (i : ℕ) → i < length f → position_at (f ++ more) i ≡ position_at f i }
     ensures tree { (f more : List (NodeValue × PositionValue)) (i : ℕ) → IsFormula f → i < length f → tree_of (f ++ more) i ≡ tree_of f i }
     ensures variables { (f more : List (NodeValue × PositionValue)) (i : ℕ) → IsFormula f → i < length f → variables_of (f ++ more) i ≡ variables_of f i }
+    ensures front { (f more : List (NodeValue × PositionValue)) (i : ℕ) → IsFormula (f ++ more) → i < length f → variables_of (f ++ more) i ≡ variables_of f i }
 {}
 
 /// The tree of a node is made of the trees of its children.

@@ -1,0 +1,4 @@
+pub mod FrontLemmas
+pub mod TokenLaws
+pub mod Turns
+pub mod NestLaws
