@@ -1,0 +1,11 @@
+pub mod TrackLaws
+pub mod DigitLaws
+pub mod CostLaws
+pub mod LeafLaws
+pub mod BinaryLaws
+pub mod QuantifierLaws
+pub mod NegationLaws
+pub mod OutcomeLaws
+pub mod MarkLaws
+pub mod LevelLaws
+pub mod RunLaws

@@ -1,0 +1,5 @@
+pub mod Evaluating
+pub mod Levels
+pub mod Outcomes
+pub mod Parts
+pub mod Faults

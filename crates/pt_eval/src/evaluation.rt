@@ -1,0 +1,176 @@
+// Evaluation of the roots of a formula.
+ghost use Rattle.std.specs.Prelude.{◌≡◌, ◌≢◌, ◌↔◌, ℕ, ◌+◌, ◌*◌, ◌<◌, ◌≤◌, length, slice_get, slice_index, Some, IfOk, IfErr, OnOk, IfSome, IfNone};
+ghost use Rattle.std.specs.List.{AllByRecursion};
+ghost use Rattle.pt_sets.specs.Lists.{Extends};
+ghost use Rattle.pt_formula.specs.Costs.{NoneRefused};
+ghost use Rattle.pt_handles.specs.declared.handle.Handle.{Handle as HandleValue};
+ghost use Rattle.pt_eval.specs.Evaluating.{HaveSolutions, KnowsReached, RefusesRoots};
+ghost use Rattle.pt_eval.specs.Levels.{AreOrdered, IsPlanned};
+ghost use Rattle.pt_eval.specs.Outcomes.{AreOutcomes, AreWritten, IsSettled, RefusesWhere, costly, known, outcome_at};
+
+use crate::fault::EvalFault;
+use crate::gate::Gate;
+use crate::level::evaluate_level;
+use crate::levels::plan;
+use crate::outcome::Outcome;
+use pt_formula::{Formula, NodeId};
+use pt_handles::{Handle, longer_lists_know};
+use pt_store::{Codes, Interner, StoreFault};
+use std::alloc::{AllocError, Global};
+use std::thread::Threads;
+
+/// For each root a known handle of its solutions: the integer vectors over its free variables, in increasing order, one
+/// track each, at which it holds. After Ok the pass knows a handle of the solutions of each node that the roots reach.
+///
+/// The nodes that the roots reach are evaluated, each once: level by level, a leaf at level 0 and another node one level above
+/// its highest child, and those of one level by number. The bound, from 1 to 65,536, is that of every node. A node with a
+/// refused descendant is left out; all others are evaluated, also where one child already decides the answer. `gate` is told
+/// right before and right after each node's work. There are 1 to 16 workers; all work is done on the caller's thread.
+///
+/// Refuses for want of memory; with `Full` only where the list of that shard has as many codes as it may hold and the lists
+/// lack the solutions of a node that the roots reach whose cost, and that of each descendant, is within the bound; and with
+/// `States` exactly at the node of least number, among the roots and their descendants, whose cost is over the bound and
+/// that of no descendant is. The first of these that comes in this order is answered. With each answer the lists of the
+/// pass extend the old ones, and at most the formula's length times the bound codes were offered.
+///
+/// Besides the operations at the nodes the time is linear in the formula's length.
+pub fn evaluate<I: Interner, G: Gate, R: Threads>(
+    rt: &R,
+    alloc: Global,
+    store: &I,
+    pass: &mut I::Pass,
+    formula: &Formula,
+    roots: &[NodeId],
+    bound: u32,
+    workers: u32,
+    gate: &G,
+) -> Result<Vec<Handle>, EvalFault>
+    requires owned { I.owns store.now pass.old }
+    requires roots { AllByRecursion (λ root. root < length formula.now) roots.now }
+    requires some { 0 < bound }
+    requires few { bound ≤ 65536 }
+    requires some_worker { 0 < workers }
+    requires few_workers { workers ≤ 16 }
+    ensures kept { I.owns store.now pass.new }
+    ensures extends { Extends (I.Pass.lists pass.old) (I.Pass.lists pass.new) }
+    ensures ok { IfOk result (λ handles. HaveSolutions I.Pass.home (I.Pass.lists pass.new) formula.now roots.now handles.items) }
+    ensures reached { OnOk result (KnowsReached I.Pass.home (I.Pass.lists pass.new) formula.now roots.now) }
+    ensures within { OnOk result (NoneRefused formula.now roots.now bound) }
+    ensures err { IfErr result (RefusesRoots formula.now roots.now bound I.Pass.home (I.limit_of store.now) (I.Pass.lists pass.new)) }
+    ensures offers { I.Pass.offered pass.new ≤ I.Pass.offered pass.old + length formula.now * bound }
+{
+    let _formula = formula.len();
+    let rows = match plan(alloc, formula, roots) {
+        Ok(rows) => rows,
+        Err(_) => return Err(EvalFault::NoMemory),
+    };
+    let outcomes = match evaluate_rows(rt, alloc, store, pass, formula, bound, gate, &rows) {
+        Ok(outcomes) => outcomes,
+        Err(fault) => return Err(EvalFault::from(fault)),
+    };
+    if let Some(node) = first_costly(&outcomes) {
+        return Err(EvalFault::States { node });
+    }
+    match handles_of(alloc, &outcomes, roots) {
+        Ok(handles) => Ok(handles),
+        Err(_) => Err(EvalFault::NoMemory),
+    }
+}
+
+/// The outcome of each node in the lists, evaluated list by list; of the others none yet.
+fn evaluate_rows<I: Interner, G: Gate, R: Threads>(
+    rt: &R,
+    alloc: Global,
+    store: &I,
+    pass: &mut I::Pass,
+    formula: &Formula,
+    bound: u32,
+    gate: &G,
+    rows: &[Vec<NodeId>],
+) -> Result<Vec<Outcome>, StoreFault>
+    requires owned { I.owns store.now pass.old }
+    requires ordered { AreOrdered formula.now rows.now }
+    requires some { 0 < bound }
+    requires few { bound ≤ 65536 }
+    ensures kept { I.owns store.now pass.new }
+    ensures extends { Extends (I.Pass.lists pass.old) (I.Pass.lists pass.new) }
+    ensures outcomes { IfOk result (λ outcomes. AreOutcomes I.Pass.home (I.Pass.lists pass.new) formula.now bound outcomes.items) }
+    ensures settled { IfOk result (λ outcomes. (i : ℕ) → IsSettled (outcome_at outcomes.items i) ↔ IsPlanned rows.now i) }
+    ensures err { IfErr result (RefusesWhere (IsPlanned rows.now) formula.now bound I.Pass.home (I.limit_of store.now) (I.Pass.lists pass.new)) }
+    ensures offers { I.Pass.offered pass.new ≤ I.Pass.offered pass.old + length formula.now * bound }
+{
+    longer_lists_know();
+    let Ok(mut outcomes) = pending(alloc, formula.len()) else {
+        return Err(StoreFault::NoMemory);
+    };
+    for row in rows {
+        match evaluate_level(rt, alloc, store, pass, formula, bound, gate, &outcomes, row) {
+            Ok(results) => write_results(&mut outcomes, row, &results),
+            Err(fault) => return Err(fault),
+        }
+    }
+    Ok(outcomes)
+}
+
+/// So many outcomes of which nothing is known.
+fn pending(alloc: Global, count: u32) -> Result<Vec<Outcome>, AllocError>
+    ensures count { IfOk result (λ outcomes. length outcomes.items ≡ count) }
+    ensures pending { IfOk result (λ outcomes. (i : ℕ) → IsSettled (outcome_at outcomes.items i) → ⊥) }
+{
+    vec![in alloc; Outcome::Pending; count as usize]
+}
+
+/// Puts each result at its node.
+fn write_results(outcomes: &mut Vec<Outcome>, nodes: &[NodeId], results: &[Outcome])
+    requires count { length results.now ≡ length nodes.now }
+    requires nodes { (k : ℕ) → k < length nodes.now → slice_index nodes.now k < length outcomes.old.items }
+    ensures { AreWritten nodes.now results.now (length nodes.now) outcomes.old.items outcomes.new.items }
+{
+    for (k, node) in nodes.iter().enumerate() {
+        outcomes[*node as usize] = results[k];
+    }
+}
+
+/// The first node whose cost is over the bound.
+fn first_costly(outcomes: &[Outcome]) -> Option<NodeId>
+    requires { length outcomes.now ≤ 65536 }
+    ensures some { IfSome result (λ i. outcome_at outcomes.now i ≡ costly) }
+    ensures first { IfSome result (λ i. (j : ℕ) → outcome_at outcomes.now j ≡ costly → i ≤ j) }
+    ensures none { IfNone result ((j : ℕ) → outcome_at outcomes.now j ≢ costly) }
+{
+    for (i, outcome) in outcomes.iter().enumerate() {
+        if matches!(outcome, Outcome::Costly) {
+            return Some(i as u32);
+        }
+    }
+    None
+}
+
+/// The handle of each root, of which all are known.
+fn handles_of(
+    alloc: Global,
+    outcomes: &[Outcome],
+    roots: &[NodeId],
+) -> Result<Vec<Handle>, AllocError>
+    requires roots { AllByRecursion (λ root. root < length outcomes.now) roots.now }
+    requires known { AllByRecursion (λ root. (h : HandleValue) × (outcome_at outcomes.now root ≡ known h)) roots.now }
+    ensures count { IfOk result (λ handles. length handles.items ≡ length roots.now) }
+    ensures each { IfOk result (λ handles. (k : ℕ) (h : HandleValue) → slice_get handles.items k ≡ Some h → outcome_at outcomes.now (slice_index roots.now k) ≡ known h) }
+{
+    let mut handles = Vec::new(alloc);
+    for root in roots {
+        handles.push(known_handle(outcomes[*root as usize]))?;
+    }
+    Ok(handles)
+}
+
+/// The handle of an evaluated node.
+fn known_handle(outcome: Outcome) -> Handle
+    requires { (h : HandleValue) × (outcome ≡ known h) }
+    ensures { outcome ≡ known result }
+{
+    match outcome {
+        Outcome::Known(handle) => handle,
+        _ => unreachable!(),
+    }
+}

@@ -1,0 +1,22 @@
+//! Evaluation of formulas: known handles of the solutions of their nodes.
+#![tactic(auto)]
+
+mod evaluation;
+mod fault;
+mod gate;
+mod laws;
+mod level;
+mod levels;
+mod marks;
+mod node;
+mod outcome;
+mod tables;
+mod tracks;
+
+pub use evaluation::evaluate;
+pub use fault::EvalFault;
+pub use gate::{Gate, Open};
+pub use laws::refusals_are_exact;
+
+#[cfg(test)]
+mod tests;

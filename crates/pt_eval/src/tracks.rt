@@ -1,0 +1,32 @@
+// The tracks of variables.
+ghost use Rattle.std.specs.Prelude.{◌≡◌, ◌≤◌, length, IfOk};
+ghost use Rattle.pt_formula.specs.Costs.{track_of};
+ghost use Rattle.pt_eval.specs.Parts.{tracks_of};
+
+use pt_formula::Var;
+use std::alloc::{AllocError, Global};
+
+/// The track of a variable: its place among the variables; their number where it is none of them.
+pub(crate) fn track(v: Var, variables: &[Var]) -> usize
+    ensures track { result ≡ track_of v variables.now }
+    ensures within { result ≤ length variables.now }
+{
+    for (i, u) in variables.iter().enumerate() {
+        if *u == v {
+            return i;
+        }
+    }
+    variables.len()
+}
+
+/// The track of each of some variables.
+pub(crate) fn track_map(alloc: Global, inner: &[Var], outer: &[Var]) -> Result<Vec<u8>, AllocError>
+    requires { length outer.now ≤ 10 }
+    ensures { IfOk result (λ map. map.items ≡ tracks_of inner.now outer.now) }
+{
+    let mut map = Vec::new(alloc);
+    for v in inner {
+        map.push(track(*v, outer) as u8)?;
+    }
+    Ok(map)
+}
