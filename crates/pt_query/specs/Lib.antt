@@ -1,0 +1,9 @@
+pub mod Queries
+pub mod Shifting
+pub mod Steps
+pub mod Walks
+pub mod Narrow
+pub mod Partners
+pub mod Tame
+pub mod Fresh
+pub mod Spreads
