@@ -1,0 +1,111 @@
+-- A scope in which a command is elaborated: what it asks for, and what it is afterwards.
+use Rattle.std.proofs.Common.{◌≡◌, ◌⊎◌, inl, inr, ℕ, suc, ◌+◌, ◌<◌, ◌≤◌, ◌==◌, Bool, true, false, List, [], ◌∷◌, ◌++◌, length, map, arith, refl, sym, ap, subst, ◌∙◌}
+use Rattle.std.proofs.lemmas.Bool.Decides.{nat_tests}
+use Rattle.std.specs.Prelude.{Result, Ok, Err, Option, Some, None, slice_get, IfOk, IfSome}
+use Rattle.std.specs.List.{AllByRecursion}
+use Rattle.pt_sets.specs.Elements.{ContainsByRecursion, AnyByRecursion}
+use Rattle.pt_formula.specs.declared.node.Node.{Node}
+use Rattle.pt_formula.specs.declared.node.Position.{Position}
+use Rattle.pt_formula.specs.Forms.{Term}
+use Rattle.pt_formula.specs.Formulas.{start as start_formula, node_at, entry_node, children, node_tree, tree_of, variables_of, IsFormula}
+use Rattle.pt_syntax.specs.declared.sexpr.SExpr.{SExpr}
+use Rattle.pt_syntax.specs.declared.kinds.ReadRefusal.{ReadRefusal}
+use Rattle.pt_read.specs.declared.command.Command.{Command}
+use Rattle.pt_read.specs.declared.command.Constant.{Constant}
+use Rattle.pt_read.specs.declared.command.Meaning.{Meaning}
+use Rattle.pt_read.specs.declared.command.Meaning.TheVariants.{Int, Bool as Truth}
+use Rattle.pt_read.specs.Elaboration.{Work}
+use Rattle.pt_read.specs.Scope.{State, Symbol, Assertion, Use, Constant_of, Defined, conjunction, last_conjunction, constants_in}
+use Rattle.pt_read.specs.Sound.{AreBelow, AreTermsBelow, IsMeaningIn, IsUseIn, IsEnvIn}
+use Rattle.pt_read.specs.Gives.{Gives, Grows}
+use Rattle.pt_read.specs.Lasting.{IsConstantUpTo, IsUseSound, IsSound}
+use Rattle.pt_read.specs.Environment.{outermost}
+use Rattle.pt_read.specs.Standing.{LastIs, Stands, commanded, joined}
+use Rattle.pt_read.specs.Context.{IsKindIn}
+use Rattle.pt_read.specs.Fits.{IsMeaning, free_of}
+use Rattle.pt_read.specs.Reader.{with_work, OnlyAdds, Elaborated}
+use Rattle.pt_read.specs.Commands.{elaborate}
+use Rattle.pt_read.proofs.FreeSteps.{Nodes}
+use Rattle.pt_read.proofs.FreeNodes.{IsWhole, within-or-none}
+use Rattle.pt_read.proofs.Fitting.{IsStep, start, constants-below, any-constant}
+use Rattle.pt_read.proofs.FittingWhole.{fits-elaborated}
+
+-- the laws of formulas, of one whole formula
+abbrev Fronts : Type 0
+Fronts = (f more : Nodes) (i : ℕ) → IsFormula (f ++ more) → i < length f → variables_of (f ++ more) i ≡ variables_of f i
+
+abbrev Trees : Type 0
+Trees = (f : Nodes) (i : ℕ) → IsFormula f → tree_of f i ≡ node_tree (tree_of f) (node_at f i)
+
+pub whole-formula : Fronts → Trees → (F : Nodes) → IsFormula F → IsWhole F
+whole-formula fronts trees F h = record {
+  fronts = λ f more i e lt. ap (λ (g : Nodes). variables_of g i) e ∙ fronts f more i (subst IsFormula e h) lt;
+  trees = λ i. trees F i h;
+  earlier = λ i c k. elim (within-or-none F i) [
+    | inl lt ↦ member (λ d. d < i) (children (node_at F i)) (h.each i lt).earlier c k
+    | inr none ↦ absurd (subst (λ n. ContainsByRecursion c (children n)) (ap entry_node none) k)
+  ];
+}
+  where
+    member : (P : ℕ → Type 0) (us : List ℕ) → AllByRecursion P us → (u : ℕ) → ContainsByRecursion u us → P u
+    member P [] h u c = absurd c
+    member P (x ∷ us) h u c = elim c [ inl e ↦ subst P (sym e) h.0 | inr k ↦ member P us h.1 u k ]
+
+-- ---- what elaboration asks for
+
+below-given : (s : State) (level : ℕ) (ps : List ℕ) → IsSound s → AllByRecursion (λ v. v < s.given) ps → (v : ℕ) → ContainsByRecursion v ps ⊎ IsConstantUpTo level s.symbols v → v < s.given
+below-given s level ps h all v k = elim k [ inl c ↦ member ps all c | inr c ↦ constants-below s v s.symbols h.symbols (any-constant level v s.symbols c) ]
+  where
+    member : (us : List ℕ) → AllByRecursion (λ v. v < s.given) us → ContainsByRecursion v us → v < s.given
+    member [] h c = absurd c
+    member (u ∷ us) h c = elim c [ inl e ↦ subst (λ x. x < s.given) (sym e) h.0 | inr d ↦ member us h.1 d ]
+
+use-in : (s : State) (level : ℕ) (u : Use) → IsSound s → IsUseSound s level u → IsUseIn (start s) u
+use-in s level (Constant_of v) h k = k
+use-in s level (Defined ps m) h k = (meaning m k.1 k.2, k.0.1)
+  where
+    terms : (ts : List Term) → AllByRecursion (λ v. ContainsByRecursion v ps ⊎ IsConstantUpTo level s.symbols v) (map (λ (t : Term). t.0) ts) → AreTermsBelow s.given ts
+    terms [] d = tt
+    terms (t ∷ ts) d = (below-given s level ps h k.0.1 t.0 d.0, terms ts d.1)
+
+    meaning : (m : Meaning) → IsMeaning s m → AllByRecursion (λ v. ContainsByRecursion v ps ⊎ IsConstantUpTo level s.symbols v) (free_of s m) → IsMeaningIn (start s) m
+    meaning (Int f) range free = (range, terms f.terms free)
+    meaning (Truth i) range free = range
+
+joined-range : (n c : ℕ) (made : List Assertion) → c < n → AllByRecursion (λ (a : Assertion). a.conjunction < n) made → last_conjunction c made < n
+joined-range n c [] lt h = lt
+joined-range n c (a ∷ made) lt h = joined-range n a.conjunction made h.0 h.1
+
+pub scope-names : (s : State) → IsSound s → IsEnvIn (start s) (outermost s.symbols)
+scope-names s h = record { bound = tt; live = uses s.symbols h.symbols }
+  where
+    uses : (xs : List Symbol) → AllByRecursion (λ (x : Symbol). (x.level ≤ s.depth) × IsUseSound s x.level x.stands_for) xs → AllByRecursion (λ (x : Symbol). IsUseIn (start s) x.stands_for) xs
+    uses [] k = tt
+    uses (x ∷ xs) k = (use-in s x.level x.stands_for h k.0.1, uses xs k.1)
+
+pub scope-joined : (s : State) → IsSound s → IfSome (joined s.assertions) (λ c. c < length s.formula)
+scope-joined s h = by-assertions s.assertions (ranges s.assertions h.assertions)
+  where
+    ranges : (made : List Assertion) → AllByRecursion (λ (a : Assertion). (a.level ≤ s.depth) × (a.term < length s.formula) × (a.conjunction < length s.formula)) made → AllByRecursion (λ (a : Assertion). a.conjunction < length s.formula) made
+    ranges [] k = tt
+    ranges (a ∷ made) k = (k.0.2, ranges made k.1)
+
+    by-assertions : (made : List Assertion) → AllByRecursion (λ (a : Assertion). a.conjunction < length s.formula) made → IfSome (joined made) (λ c. c < length s.formula)
+    by-assertions [] k = tt
+    by-assertions (a ∷ made) k = joined-range (length s.formula) a.conjunction made k.0 k.1
+
+pub scope-stands : (s : State) → Stands s s.symbols (joined s.assertions)
+scope-stands s = (refl, last s.assertions refl)
+  where
+    last : (made : List Assertion) → s.assertions ≡ made → LastIs s made (joined made)
+    last [] e = refl
+    last (a ∷ made) e = ap Some (sym (ap (last_conjunction 0) e))
+
+-- ---- what it leaves
+
+pub elaborated : Fronts → Trees → (s : State) (p : Position) (items : List SExpr) (w : Work) (r : Result Command ReadRefusal) → IsFormula w.formula → AreBelow s.formula s.given → IsSound s → Gives (λ c. c) r (start s) w (commanded s p items) → IfOk r (λ c. IsKindIn w c.kind) → Grows (start s) w → Elaborated r s (with_work w s) (elaborate s p items)
+elaborated fronts trees s p items w (Ok c) formula below sound gives range grows =
+    let step : IsStep s w = record { whole = whole-formula fronts trees w.formula formula; front = grows.nodes; given = grows.given; below = below; sound = sound } in
+    (w, gives, refl, fits-elaborated s p items c w step range gives)
+elaborated fronts trees s p items w (Err e) formula below sound gives range grows =
+    (gives, record { nodes = grows.nodes; given = grows.given; depth = refl; symbols = refl; assertions = refl })

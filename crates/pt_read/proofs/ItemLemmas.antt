@@ -1,0 +1,89 @@
+-- Items that are missing.
+use Rattle.std.proofs.Common.{◌≡◌, ℕ, zero, suc, ◌<◌, ◌||◌, true, false, if◌then◌else◌, List, [], ◌∷◌, map, drop, length, Option, Some, None, IfSome, option_map, refl, ap, sym, subst, ◌∙◌, ◌≤◌, get_or, arith}
+use Rattle.std.specs.Prelude.{bytes_eq, is_some}
+use Rattle.std.specs.List.{AllByRecursion}
+use Rattle.pt_read.specs.Elaboration.{Work}
+use Rattle.pt_read.specs.Environment.{outermost}
+use Rattle.pt_read.specs.Scope.{Name, Use, Symbol, State, Assertion, find_symbol, is_live}
+use Rattle.pt_read.specs.Sound.{IsUseIn, IsEnvIn}
+use Rattle.pt_read.specs.Context.{IsStateIn}
+use Rattle.pt_read.specs.Gives.{Grows}
+use Rattle.pt_read.proofs.Ranges.{env_more, node_more}
+use Rattle.pt_formula.specs.declared.node.Position.{Position}
+use Rattle.pt_syntax.specs.declared.sexpr.SExpr.{SExpr}
+use Rattle.pt_read.specs.Commands.{Item_form, More, items_fault}
+
+-- without an item for a form that is left, the fault is at the command
+pub missing : {X : Type 0} (f : X → Item_form) (p : Position) (more : More) (forms : List X) (i : ℕ) (items : List SExpr) (all : Option Position) → i < length forms → length items < 1 → items_fault p (map f (drop i forms)) more items ≡ all → Some p ≡ all
+missing f p more [] i items all within none told = absurd (omega arith)
+missing f p more (form ∷ forms) zero [] all within none told = told
+missing f p more (form ∷ forms) zero (e ∷ es) all within none told = absurd (omega arith)
+missing f p more (form ∷ forms) (suc i) items all within none told = missing f p more forms i items all (omega arith) none told
+
+-- a name is live exactly where it stands for something
+pub is_live_found : (symbols : List Symbol) (name : Name) → is_some (find_symbol symbols name) ≡ is_live symbols name
+is_live_found [] name = refl
+is_live_found (s ∷ symbols) name = elim (bytes_eq s.name name) as (λ b. is_some (if b then Some s.stands_for else find_symbol symbols name) ≡ (b || is_live symbols name)) [ true ↦ refl | false ↦ is_live_found symbols name ]
+
+-- what a live name stands for is in range
+pub found_in : (w : Work) (symbols : List Symbol) (name : Name) → AllByRecursion (λ (x : Symbol). IsUseIn w x.stands_for) symbols → IfSome (find_symbol symbols name) (IsUseIn w)
+found_in w [] name h = tt
+found_in w (s ∷ symbols) name h = elim (bytes_eq s.name name) as (λ b. IfSome (if b then Some s.stands_for else find_symbol symbols name) (IsUseIn w)) [ true ↦ h.0 | false ↦ found_in w symbols name h.1 ]
+
+-- so is the use that is shown
+pub shown_in : {X : Type 0} (w : Work) (show : X → Use) (found : Option X) (meant : Option Use) → option_map show found ≡ meant → IfSome meant (IsUseIn w) → IfSome found (λ x. IsUseIn w (show x))
+shown_in w show None meant same h = tt
+shown_in w show (Some x) meant same h = subst (λ u. IfSome u (IsUseIn w)) (sym same) h
+
+-- nothing is bound at the start
+pub outermost_in : (w : Work) (s : State) → IsStateIn w s → IsEnvIn w (outermost s.symbols)
+outermost_in w s h = record { bound = tt {0}; live = h.symbols }
+
+conjunctions_more : (v w : Work) (assertions : List Assertion) → Grows v w → AllByRecursion (λ (a : Assertion). a.conjunction < length v.formula) assertions → AllByRecursion (λ (a : Assertion). a.conjunction < length w.formula) assertions
+conjunctions_more v w [] g h = tt
+conjunctions_more v w (a ∷ assertions) g h = (node_more v w a.conjunction g h.0, conjunctions_more v w assertions g h.1)
+
+pub state_more : (v w : Work) (s : State) → Grows v w → IsStateIn v s → IsStateIn w s
+state_more v w s g h = record {
+  symbols = (env_more v w (outermost s.symbols) g (outermost_in v s h)).live;
+  conjunctions = conjunctions_more v w s.assertions g h.conjunctions;
+}
+
+pub ruleset states = (state_more, outermost_in)
+
+-- found exactly where it is live
+pub live_where : {X : Type 0} (show : X → Use) (found : Option X) (symbols : List Symbol) (name : Name) → option_map show found ≡ find_symbol symbols name → is_some found ≡ is_live symbols name
+live_where show None symbols name same = ap is_some same ∙ is_live_found symbols name
+live_where show (Some x) symbols name same = ap is_some same ∙ is_live_found symbols name
+
+pub found_use_in : {X : Type 0} (w : Work) (show : X → Use) (found : Option X) (s : State) (symbols : List Symbol) (name : Name) → symbols ≡ s.symbols → IsStateIn w s → option_map show found ≡ find_symbol symbols name → IfSome found (λ x. IsUseIn w (show x))
+found_use_in w show found s symbols name same h is = shown_in w show found (find_symbol symbols name) is (found_in w symbols name (subst (AllByRecursion (λ (x : Symbol). IsUseIn w x.stands_for)) (sym same) h.symbols))
+
+-- a list by its first items
+pub one_item : {X : Type 0} (items : List X) (a : X) → 1 ≤ length items → a ≡ get_or items 0 a → items ≡ a ∷ drop 1 items
+one_item [] a h e = absurd (omega arith)
+one_item (x ∷ xs) a h e = ap (λ y. y ∷ xs) (sym e)
+
+pub two_items : {X : Type 0} (items : List X) (a b : X) → 2 ≤ length items → a ≡ get_or items 0 a → b ≡ get_or items 1 b → items ≡ a ∷ b ∷ drop 2 items
+two_items [] a b h e f = absurd (omega arith)
+two_items (x ∷ []) a b h e f = absurd (omega arith)
+two_items (x ∷ y ∷ xs) a b h e f = rw (e, f) refl
+
+pub three_items : {X : Type 0} (items : List X) (a b c : X) → 3 ≤ length items → a ≡ get_or items 0 a → b ≡ get_or items 1 b → c ≡ get_or items 2 c → items ≡ a ∷ b ∷ c ∷ drop 3 items
+three_items [] a b c h e f g = absurd (omega arith)
+three_items (x ∷ []) a b c h e f g = absurd (omega arith)
+three_items (x ∷ y ∷ []) a b c h e f g = absurd (omega arith)
+three_items (x ∷ y ∷ z ∷ xs) a b c h e f g = rw (e, f, g) refl
+
+pub four_items : {X : Type 0} (items : List X) (a b c d : X) → 4 ≤ length items → a ≡ get_or items 0 a → b ≡ get_or items 1 b → c ≡ get_or items 2 c → d ≡ get_or items 3 d → items ≡ a ∷ b ∷ c ∷ d ∷ drop 4 items
+four_items [] a b c d h e f g i = absurd (omega arith)
+four_items (x ∷ []) a b c d h e f g i = absurd (omega arith)
+four_items (x ∷ y ∷ []) a b c d h e f g i = absurd (omega arith)
+four_items (x ∷ y ∷ z ∷ []) a b c d h e f g i = absurd (omega arith)
+four_items (x ∷ y ∷ z ∷ u ∷ xs) a b c d h e f g i = rw (e, f, g, i) refl
+
+pub just_two : {X : Type 0} (items : List X) (a b : X) → 2 ≤ length items → length items < 3 → a ≡ get_or items 0 a → b ≡ get_or items 1 b → items ≡ a ∷ b ∷ []
+just_two [] a b h k e f = absurd (omega arith)
+just_two (x ∷ []) a b h k e f = absurd (omega arith)
+just_two (x ∷ y ∷ []) a b h k e f = rw (e, f) refl
+just_two (x ∷ y ∷ z ∷ xs) a b h k e f = absurd (omega arith)

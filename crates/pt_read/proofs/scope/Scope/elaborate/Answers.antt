@@ -1,0 +1,32 @@
+use Rattle.std.proofs.Common.{◌≡◌, refl, sym, ap, subst, ◌∙◌, IfSome}
+use Rattle.pt_formula.specs.Formulas.{IsFormula}
+use Rattle.pt_read.specs.Kept.{shown}
+use Rattle.pt_read.specs.Standing.{joined, Stands}
+use Rattle.pt_read.proofs.Elaborating.{whole-formula, scope-names, scope-joined, scope-stands, elaborated}
+use Rattle.pt_read.proofs.SoundLaws.{sound-grown}
+use Rattle.pt_read.proofs.scope.Scope.elaborate.Goals as goal
+
+pub elaborate-command-requires-clause-names : goal.elaborate-command-requires-clause-names
+elaborate-command-requires-clause-names c = scope-names (shown c.self.inside) c.self.invariant.sound
+
+pub elaborate-command-requires-clause-last : goal.elaborate-command-requires-clause-last
+elaborate-command-requires-clause-last c = rw (c.joined-joined.ensures, ← c.self.view_is) (scope-joined (shown c.self.inside) c.self.invariant.sound)
+
+after : (c : goal.After-len-after) → IsFormula c.elaborate-command.new.work.formula
+after c = rw c.formula-2.ensures.value at c.len-after.ensures.formula
+
+pub invariant_of-self : goal.invariant_of-self
+invariant_of-self c = record {
+  constants = c.self.invariant.constants;
+  sound = sound-grown (shown c.self.inside) c.elaborate-command.new.work
+      (whole-formula c.appended_nodes_change_no_earlier_one.ensures.front c.trees_are_made_of_those_of_the_children.ensures c.elaborate-command.new.work.formula (after c))
+      c.elaborate-command.ensures.grows.nodes c.elaborate-command.ensures.grows.given c.self.invariant.sound;
+}
+
+pub returns : goal.returns
+returns c =
+    let stands : Stands (shown c.self.inside) c.self.inside.symbols c.joined-joined.result = rw (c.joined-joined.ensures, ← c.self.view_is) (scope-stands (shown c.self.inside)) in
+    rw (← c.self.view_is)
+    (elaborated c.appended_nodes_change_no_earlier_one.ensures.front c.trees_are_made_of_those_of_the_children.ensures
+    (shown c.self.inside) c.args.at c.args.items.now c.elaborate-command.new.work c.elaborate-command.result (after c) c.formula.ensures.below c.self.invariant.sound
+    (c.elaborate-command.ensures.gives (shown c.self.inside) stands) c.elaborate-command.ensures.range c.elaborate-command.ensures.grows)

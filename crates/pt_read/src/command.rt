@@ -1,0 +1,81 @@
+ghost use Rattle.std.specs.Prelude.{◌≡◌, IfOk};
+
+use pt_digits::NoMemory;
+use pt_formula::{Form, Position, Terms};
+use sqlite_items::Items;
+use std::alloc::Global;
+
+/// A declared constant.
+#[derive(Drop)]
+pub struct Constant {
+    pub name: Items<u8>,
+    pub variable: u32,
+}
+
+/// What a term stands for: a form of sort Int, or a node of sort Bool.
+#[derive(Drop)]
+pub enum Meaning {
+    Int(Form),
+    Bool(u32),
+}
+
+#[derive(Drop)]
+pub struct Definition {
+    pub name: Items<u8>,
+    pub parameters: Items<u32>,
+    pub meaning: Meaning,
+}
+
+#[derive(Drop)]
+pub struct Predicate {
+    pub parameters: Items<u32>,
+    pub body: u32,
+}
+
+#[derive(Drop)]
+pub enum CommandKind {
+    SetLogic,
+    SetInfo,
+    SetOption { success: Option<bool> },
+    Declare { name: Items<u8>, variable: u32 },
+    Define { definition: Definition },
+    Assert { term: u32, conjunction: u32 },
+    CheckSat,
+    GetValue { constants: Items<Constant> },
+    GetModel,
+    Push(u64),
+    Pop(u64),
+    Reset,
+    Echo(Items<u8>),
+    Exit,
+    SetEqual(Predicate, Predicate),
+    SetSubset(Predicate, Predicate),
+    SetEmpty(Predicate),
+    SetFinite(Predicate),
+    SetStates(Predicate),
+    SetMember(Predicate, Items<i128>),
+    SetList(Predicate, u32),
+}
+
+/// An elaborated command, and the place of its parenthesis.
+#[derive(Drop)]
+pub struct Command {
+    pub position: Position,
+    pub kind: CommandKind,
+}
+
+/// The same meaning once more.
+pub(crate) fn copy_of_meaning(alloc: Global, meaning: &Meaning) -> Result<Meaning, NoMemory>
+    ensures { IfOk result (λ m. m ≡ meaning.now) }
+{
+    match meaning {
+        Meaning::Int(form) => {
+            let terms = Vec::from_slice(alloc, form.terms.as_slice())?;
+            Ok(Meaning::Int(Form {
+                terms: Terms::new(terms),
+                constant: form.constant,
+            }))
+        }
+        Meaning::Bool(node) => Ok(Meaning::Bool(*node)),
+    }
+}
