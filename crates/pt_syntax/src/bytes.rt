@@ -15,7 +15,8 @@ fn is_line_end(b: u8) -> bool
     b == 10 || b == 13
 }
 
-pub(crate) fn is_decimal_digit(b: u8) -> bool
+/// Whether a byte is one of the digits `0` to `9`. Constant time, no memory.
+pub fn is_decimal_digit(b: u8) -> bool
     ensures { result ≡ is_digit b }
 {
     48 <= b && b <= 57
@@ -45,7 +46,10 @@ fn is_mark(b: u8) -> bool
     b"~!@$%^&*_-+=<>.?/".iter().any(|c| b == *c)
 }
 
-pub(crate) fn is_in_symbol(b: u8) -> bool
+/// Whether a byte may stand in a simple symbol: an ASCII letter, a digit or one of
+/// ``~!@$%^&*_-+=<>.?/`` (SMT-LIB 2.6, section 3.1). A simple symbol is one or more of them, not
+/// beginning with a digit. Constant time, no memory.
+pub fn is_in_symbol(b: u8) -> bool
     ensures { result ≡ is_symbol_byte b }
 {
     is_latin_letter(b) || is_decimal_digit(b) || is_mark(b)

@@ -9,6 +9,7 @@ mod reader;
 mod sexpr;
 mod token;
 
+pub use bytes::{is_decimal_digit, is_in_symbol};
 pub use kinds::{ReadKind, ReadRefusal};
 pub use pt_formula::Position;
 pub use reader::ListReader;
