@@ -1,8 +1,8 @@
 -- Which variables are free in an application of a definition: those of the arguments, and those of the body that are no parameters.
-use Rattle.std.proofs.Common.{◌≡◌, ◌⊎◌, inl, inr, ℕ, zero, suc, ◌+◌, ◌<◌, ◌≤◌, ◌==◌, nat_lt, not, Bool, true, false, ◌||◌, if◌then◌else◌, List, [], ◌∷◌, ◌++◌, length, map, arith, refl, sym, ap, subst, ◌∙◌}
+use Rattle.std.proofs.Common.{◌≡◌, ◌⊎◌, inl, inr, ℕ, zero, suc, ◌+◌, ◌<◌, ◌≤◌, ◌==◌, nat_lt, not, Bool, true, false, if◌then◌else◌, List, [], ◌∷◌, ◌++◌, length, map, arith, refl, sym, ap, subst, ◌∙◌}
 use Rattle.std.proofs.lemmas.Bool.Decides.{nat_tests}
 use Rattle.std.specs.Prelude.{Result, Ok, Err, ℤ, pos, ⊤, zip, filter, ◌-ℤ◌}
-use Rattle.std.specs.List.{AllByRecursion, list_any, range_with_len}
+use Rattle.std.specs.List.{AllByRecursion, range_with_len}
 use Rattle.pt_sets.specs.Elements.{ContainsByRecursion}
 use Rattle.pt_formula.specs.declared.node.Node.{Node}
 use Rattle.pt_formula.specs.declared.node.Node.TheVariants as node
@@ -19,6 +19,7 @@ use Rattle.pt_read.specs.declared.command.Meaning.TheVariants.{Int, Bool as Trut
 use Rattle.pt_read.specs.Elaboration.{Work, Elab, give, refuse, follow, ◌>>=◌, make, make_exists, form, each, require, constant_form, variable_form}
 use Rattle.pt_read.specs.Terms
 use Rattle.pt_read.specs.Terms.{Argument}
+use Rattle.pt_read.proofs.ReachLaws.{reaches-closed, reaches-self}
 use Rattle.pt_read.proofs.FreeSteps.{Nodes, IsFront, front-trans, BindsIn, Grown, Good, Lasts, good-give, good-refuse, good-then, good-weaken, good-require}
 use Rattle.pt_read.proofs.FreeNodes.{IsWhole, FreeIn, NodeIn, PartsIn, Binds, old-or-last, within-or-none, node-front, good-make, good-exists}
 use Rattle.pt_read.proofs.FreeTerms.{FormIn, MeaningIn, ArgumentIn, ArgumentsIn, NodesIn, FormsIn, node-lasts, form-lasts, meaning-lasts, all-last, good-integers, good-as-truth, good-as-form, good-atom, good-form, sum-in, scale-in}
@@ -152,91 +153,6 @@ good-copy-node F V Q whole p ps rs re copies i x at = by-node x (whole.trees i �
         (λ n c. (((c.0.1 a (inl refl)).0, after-bound V F ps a i v (variables_of F (Terms.copy_of copies a)) (λ u k apart. subst (λ r. ContainsByRecursion u (free_variables r)) (sym t) (contains-without u v (variables_of F a) k apart)) (c.0.1 a (inl refl)).1), c.1 i v a c.0.0 at)))
 
 -- ---- the nodes that are reached
-
-any-of : {A : Type 0} (p : A → Bool) (x : A) (xs : List A) → ContainsByRecursion x xs → p x ≡ true → list_any p xs ≡ true
-any-of p x [] h e = absurd h
-any-of p x (y ∷ ys) h e = elim h [
-  | inl same ↦ subst (λ z. (p z || list_any p ys) ≡ true) same (ap (λ b. b || list_any p ys) e)
-  | inr k ↦ by-first (p y) (any-of p x ys k e)
-]
-  where
-    by-first : (b : Bool) → list_any p ys ≡ true → (b || list_any p ys) ≡ true
-    by-first true k = refl
-    by-first false k = k
-
-any-has : {A : Type 0} (p : A → Bool) (xs : List A) → list_any p xs ≡ true → (x : A) × ContainsByRecursion x xs × (p x ≡ true)
-any-has p [] e = absurd cc
-any-has {A} p (y ∷ ys) e = by-first (any-has p ys) (p y) refl e
-  where
-    by-first : (list_any p ys ≡ true → (x : A) × ContainsByRecursion x ys × (p x ≡ true)) → (b : Bool) → p y ≡ b → (b || list_any p ys) ≡ true → (x : A) × ContainsByRecursion x (y ∷ ys) × (p x ≡ true)
-    by-first go true k e = (y, inl refl, k)
-    by-first go false k e = let r = go e in (r.0, inr r.1, r.2)
-
--- one step further down
-reaches-child : (m : ℕ) (f : Nodes) (a d c : ℕ) → Terms.reaches_within m f a d ≡ true → ContainsByRecursion c (children (node_at f d)) → Terms.reaches_within (suc m) f a c ≡ true
-reaches-child zero f a d c e h =
-    let same : a ≡ d = grind (arith, nat_tests) in
-    by-first (a == c) (any-of (λ b. b == c) c (children (node_at f a)) (subst (λ x. ContainsByRecursion c (children (node_at f x))) (sym same) h) (grind (arith, nat_tests)))
-  where
-    by-first : (b : Bool) → list_any (λ b. b == c) (children (node_at f a)) ≡ true → (b || list_any (λ b. b == c) (children (node_at f a))) ≡ true
-    by-first true k = refl
-    by-first false k = k
-reaches-child (suc m) f a d c e h = by-here (a == d) refl (λ b k. reaches-child m f b d c k h) e
-  where
-    by-first : (b : Bool) → list_any (λ b. Terms.reaches_within (suc m) f b c) (children (node_at f a)) ≡ true → (b || list_any (λ b. Terms.reaches_within (suc m) f b c) (children (node_at f a))) ≡ true
-    by-first true k = refl
-    by-first false k = k
-
-    here : (b : ℕ) → b ≡ c → Terms.reaches_within (suc m) f b c ≡ true
-    here b same = by-test (b == c) (grind (arith, nat_tests))
-      where
-        by-test : (t : Bool) → t ≡ true → (t || list_any (λ x. Terms.reaches_within m f x c) (children (node_at f b))) ≡ true
-        by-test true k = refl
-        by-test false k = absurd cc
-
-    by-here : (t : Bool) → (a == d) ≡ t → ((b : ℕ) → Terms.reaches_within m f b d ≡ true → Terms.reaches_within (suc m) f b c ≡ true) → (t || list_any (λ b. Terms.reaches_within m f b d) (children (node_at f a))) ≡ true → (a == c || list_any (λ b. Terms.reaches_within (suc m) f b c) (children (node_at f a))) ≡ true
-    by-here true k go e =
-        let same : a ≡ d = grind (arith, nat_tests) in
-        by-first (a == c) (any-of (λ b. Terms.reaches_within (suc m) f b c) c (children (node_at f a)) (subst (λ x. ContainsByRecursion c (children (node_at f x))) (sym same) h) (here c refl))
-    by-here false k go e =
-        let r = any-has (λ b. Terms.reaches_within m f b d) (children (node_at f a)) e in
-        by-first (a == c) (any-of (λ b. Terms.reaches_within (suc m) f b c) r.0 (children (node_at f a)) r.1 (go r.0 r.2))
-
--- children come earlier, so no way down is longer than the number it begins at
-reaches-enough : (f : Nodes) → ((i c : ℕ) → ContainsByRecursion c (children (node_at f i)) → c < i) → (m n a d : ℕ) → a ≤ n → Terms.reaches_within m f a d ≡ true → Terms.reaches_within n f a d ≡ true
-reaches-enough f earlier zero zero a d le e = e
-reaches-enough f earlier zero (suc n) a d le e = by-test (a == d) e
-  where
-    by-test : (t : Bool) → t ≡ true → (t || list_any (λ x. Terms.reaches_within n f x d) (children (node_at f a))) ≡ true
-    by-test true k = refl
-    by-test false k = absurd cc
-reaches-enough f earlier (suc m) zero a d le e = by-test (a == d) e
-  where
-    none : list_any (λ b. Terms.reaches_within m f b d) (children (node_at f a)) ≡ true → ⊥
-    none k = let r = any-has (λ b. Terms.reaches_within m f b d) (children (node_at f a)) k in let lt : r.0 < a = earlier a r.0 r.1 in omega arith
-
-    by-test : (t : Bool) → (t || list_any (λ b. Terms.reaches_within m f b d) (children (node_at f a))) ≡ true → t ≡ true
-    by-test true k = refl
-    by-test false k = absurd (none k)
-reaches-enough f earlier (suc m) (suc n) a d le e = by-test (a == d) (λ b lt k. reaches-enough f earlier m n b d (omega arith) k) e
-  where
-    by-test : (t : Bool) → ((b : ℕ) → b < a → Terms.reaches_within m f b d ≡ true → Terms.reaches_within n f b d ≡ true) → (t || list_any (λ b. Terms.reaches_within m f b d) (children (node_at f a))) ≡ true → (t || list_any (λ b. Terms.reaches_within n f b d) (children (node_at f a))) ≡ true
-    by-test true go k = refl
-    by-test false go k =
-        let r = any-has (λ b. Terms.reaches_within m f b d) (children (node_at f a)) k in
-        any-of (λ b. Terms.reaches_within n f b d) r.0 (children (node_at f a)) r.1 (go r.0 (earlier a r.0 r.1) r.2)
-
--- what a reached node has as children is reached
-reaches-closed : (f : Nodes) → ((i c : ℕ) → ContainsByRecursion c (children (node_at f i)) → c < i) → (a d c : ℕ) → Terms.reaches_within a f a d ≡ true → ContainsByRecursion c (children (node_at f d)) → Terms.reaches_within a f a c ≡ true
-reaches-closed f earlier a d c e h = reaches-enough f earlier (suc a) a a c (omega arith) (reaches-child a f a d c e h)
-
-reaches-self : (n : ℕ) (f : Nodes) (a : ℕ) → Terms.reaches_within n f a a ≡ true
-reaches-self zero f a = grind (arith, nat_tests)
-reaches-self (suc n) f a = by-test (a == a) (grind (arith, nat_tests))
-  where
-    by-test : (t : Bool) → t ≡ true → (t || list_any (λ x. Terms.reaches_within n f x a) (children (node_at f a))) ≡ true
-    by-test true k = refl
-    by-test false k = absurd cc
 
 -- all reached nodes below k have copies
 abbrev CopiedBelow : (ℕ → Type 0) → Nodes → List ℕ → (ℕ → Bool) → List (ℕ × ℕ) → ℕ → ℕ → Type 0

@@ -10,7 +10,6 @@ pub mod Digits
 pub mod ItemLemmas
 pub mod Scopes
 pub mod TermLayers
-pub mod Numbers
 pub mod BoundNames
 pub mod EnvLemmas
 pub mod Defining

@@ -11,8 +11,9 @@ use crate::command::Meaning;
 use crate::elaborator::Elaborator;
 use crate::environment::Environment;
 use crate::exprs::{items, place, symbol};
+use crate::item_parts::int_only;
 use crate::refusals::{no_memory, refused};
-use crate::words::{is, is_reserved_word};
+use crate::words::is_reserved_word;
 use pt_syntax::{Position, ReadKind, ReadRefusal, SExpr};
 use std::alloc::Global;
 
@@ -42,7 +43,7 @@ pub(crate) type Named<'e> = (&'e [u8], u32);
 impl Elaborator {
     ghost use Rattle.std.specs.Prelude.{◌≡◌, ◌<◌, [], length, map, reverse, true, false, IfOk, OnOk, All};
     ghost use Rattle.pt_read.specs.Names.{bind};
-    ghost use Rattle.pt_read.specs.Special.{bindable, int_sort, variable, variables, as_bound, exists_all, quantified};
+    ghost use Rattle.pt_read.specs.Special.{bindable, variable, variables, as_bound, exists_all, quantified};
     ghost use Rattle.pt_read.specs.Gives.{Gives, Grows};
 
     /// The name of a symbol that may be bound.
@@ -71,17 +72,6 @@ impl Elaborator {
         Ok(name)
     }
 
-    /// That a sort is Int.
-    pub(crate) fn int_sort(&self, sort: &SExpr) -> Result<(), ReadRefusal>
-        ensures { Gives (λ _. tt {0}) result self.now self.now (int_sort sort.now) }
-    {
-        if is(name_in(sort), b"Int") {
-            Ok(())
-        } else {
-            Err(refused(ReadKind::Unsupported, place(sort)))
-        }
-    }
-
     /// A variable of a quantifier, with the next number.
     fn variable<'e>(&mut self, e: &'e SExpr) -> Result<Named<'e>, ReadRefusal>
         ensures gives { Gives (λ x. (x.0.now, x.1)) result self.old self.new (variable [] e.now) }
@@ -91,7 +81,7 @@ impl Elaborator {
         match items(e) {
             Some([symbol, sort]) => {
                 let name = self.bindable(symbol)?;
-                self.int_sort(sort)?;
+                int_only(sort)?;
                 let v = self.fresh()?;
                 Ok((name, v))
             }

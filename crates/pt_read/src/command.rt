@@ -1,9 +1,5 @@
-ghost use Rattle.std.specs.Prelude.{◌≡◌, IfOk};
-
-use pt_digits::NoMemory;
-use pt_formula::{Form, Position, Terms};
+use pt_formula::{Form, Position};
 use sqlite_items::Items;
-use std::alloc::Global;
 
 /// A declared constant.
 #[derive(Drop)]
@@ -62,20 +58,4 @@ pub enum CommandKind {
 pub struct Command {
     pub position: Position,
     pub kind: CommandKind,
-}
-
-/// The same meaning once more.
-pub(crate) fn copy_of_meaning(alloc: Global, meaning: &Meaning) -> Result<Meaning, NoMemory>
-    ensures { IfOk result (λ m. m ≡ meaning.now) }
-{
-    match meaning {
-        Meaning::Int(form) => {
-            let terms = Vec::from_slice(alloc, form.terms.as_slice())?;
-            Ok(Meaning::Int(Form {
-                terms: Terms::new(terms),
-                constant: form.constant,
-            }))
-        }
-        Meaning::Bool(node) => Ok(Meaning::Bool(*node)),
-    }
 }

@@ -203,7 +203,7 @@ impl Elaborator {
         ensures grows { Grows self.old self.new }
     {
         let name = self.bindable_beside(earlier, name)?;
-        self.int_sort(sort)?;
+        int_only(sort)?;
         let v = self.fresh()?;
         Ok((name, v))
     }

@@ -18,6 +18,7 @@ mod exprs;
 mod forms;
 mod item_forms;
 mod item_parts;
+mod leaves;
 mod names;
 mod numbering;
 mod numerals;

@@ -1,4 +1,5 @@
-use crate::command::{Command, CommandKind, Constant, Definition, copy_of_meaning};
+use crate::arithmetic::copy_of_meaning;
+use crate::command::{Command, CommandKind, Constant, Definition};
 use crate::commands;
 use crate::elaborator::Elaborator;
 use crate::symbols::{Symbols, Use};

@@ -1,15 +1,15 @@
-// Terms: the steps of all forms of term, down the nested lists.
-use crate::arithmetic::{Argument, form_of_number};
+// Terms: the steps of all forms of list, down the nested lists.
+use crate::arithmetic::Argument;
 use crate::binders::{Named, bind_variables, items_in};
 use crate::bindings::Bindings;
 use crate::command::Meaning;
 use crate::elaborator::Elaborator;
 use crate::environment::Environment;
-use crate::exprs::{items, numeral, place, symbol};
+use crate::exprs::{items, place};
 use crate::forms::{fault_of_annotation, fault_of_let, fault_of_quantifier};
 use crate::names::Head;
 use crate::refusals::{no_memory, refused};
-use crate::words::{head, is};
+use crate::words::head;
 use pt_syntax::{Leaf, Position, ReadKind, ReadRefusal, SExpr};
 use std::alloc::Global;
 
@@ -24,122 +24,13 @@ impl Elaborator {
     ghost use Rattle.pt_read.specs.Special.{as_bound};
     ghost use Rattle.pt_syntax.specs.Rest.{no_memory as no_memory_refusal};
     ghost use Rattle.pt_read.specs.Terms.{Argument};
-    ghost use Rattle.pt_read.specs.Special.{numeral, leaf_term, argument, applied, modulus, indexed_head, headed, layer_term, term_within, unless_faulty, annotation_fault, annotated, let_fault, quantifier_fault, binding, bindings, let_term, quantifier};
-    ghost use Rattle.pt_read.specs.Layers.{symbol_term, pair, let_parts, quantifier_parts};
+    ghost use Rattle.pt_read.specs.Special.{argument, applied, headed, layer_term, term_within, unless_faulty, annotation_fault, annotated, let_fault, quantifier_fault, binding, bindings, let_term, quantifier};
+    ghost use Rattle.pt_read.specs.Layers.{pair, let_parts, quantifier_parts};
     ghost use Rattle.pt_syntax.specs.declared.sexpr.SExpr.{out-SExpr};
     ghost use Rattle.pt_syntax.specs.declared.sexpr.SExpr.TheOpen as layer;
     ghost use Rattle.pt_read.specs.Environment.{inside};
     ghost use Rattle.pt_read.specs.Gives.{Gives, Grows};
     ghost use Rattle.pt_read.specs.Sound.{IsMeaningIn, IsEnvIn};
-
-    /// The number of digits, which has to fit 63 bits.
-    #[tactic(auto, using(crate::proofs::Numbers::value_grows))]
-    pub(crate) fn number(&self, at: Position, digits: &[u8]) -> Result<u64, ReadRefusal>
-        ensures gives { Gives (λ n. n) result self.now self.now (numeral at digits.now) }
-        ensures small { IfOk result (λ n. n < 2 ^ 63) }
-    {
-        let mut number: u64 = 0;
-        for digit in digits {
-            let next = u128::from(number) * 10 + u128::from(digit.saturating_sub(48));
-            if next >= 0x8000_0000_0000_0000 {
-                return Err(refused(ReadKind::Coefficient, at));
-            }
-            number = next as u64;
-        }
-        Ok(number)
-    }
-
-    /// A term that is no list.
-    fn leaf_term(
-        &mut self,
-        alloc: Global,
-        env: &Environment<'_>,
-        at: Position,
-        leaf: &Leaf,
-    ) -> Result<Meaning, ReadRefusal>
-        requires env { IsEnvIn self.old env.now }
-        ensures gives { Gives (λ m. m) result self.old self.new (leaf_term env.now at leaf.now) }
-        ensures range { IfOk result (IsMeaningIn self.new) }
-        ensures grows { Grows self.old self.new }
-    {
-        match leaf {
-            Leaf::Numeral(digits) => {
-                let n = self.number(at, digits.as_slice())?;
-                Ok(Meaning::Int(form_of_number(alloc, n as i64)))
-            }
-            Leaf::Symbol(name) => self.symbol_term(alloc, env, at, name.as_slice()),
-            Leaf::Constant | Leaf::Text(_) => Err(refused(ReadKind::Unsupported, at)),
-            Leaf::Keyword(_) => Err(refused(ReadKind::Syntax, at)),
-        }
-    }
-
-    /// A symbol as a term of its own.
-    fn symbol_term(
-        &mut self,
-        alloc: Global,
-        env: &Environment<'_>,
-        at: Position,
-        name: &[u8],
-    ) -> Result<Meaning, ReadRefusal>
-        requires env { IsEnvIn self.old env.now }
-        ensures gives { Gives (λ m. m) result self.old self.new (symbol_term env.now at name.now) }
-        ensures range { IfOk result (IsMeaningIn self.new) }
-        ensures grows { Grows self.old self.new }
-    {
-        if is(name, b"true") {
-            let n = self.truth(alloc, true, at)?;
-            return Ok(Meaning::Bool(n));
-        }
-        if is(name, b"false") {
-            let n = self.truth(alloc, false, at)?;
-            return Ok(Meaning::Bool(n));
-        }
-        env.plain(alloc, name, at)
-    }
-
-    /// The modulus of a head `(_ divisible N)` at its place.
-    fn indexed_head(&self, at: Position, index: &[SExpr]) -> Result<u64, ReadRefusal>
-        ensures gives { Gives (λ n. n) result self.now self.now (indexed_head at index.now) }
-        ensures some { IfOk result (λ n. 0 < n) }
-        ensures small { IfOk result (λ n. n < 2 ^ 63) }
-    {
-        match index {
-            [mark, name, indices @ ..] => match (symbol(mark), symbol(name)) {
-                (Some(mark), Some(name)) => {
-                    if !is(mark, b"_") {
-                        Err(refused(ReadKind::Syntax, at))
-                    } else if is(name, b"divisible") {
-                        self.modulus(at, indices)
-                    } else {
-                        Err(refused(ReadKind::Unsupported, at))
-                    }
-                }
-                _ => Err(refused(ReadKind::Syntax, at)),
-            },
-            _ => Err(refused(ReadKind::Syntax, at)),
-        }
-    }
-
-    /// The one number behind `divisible`.
-    fn modulus(&self, at: Position, indices: &[SExpr]) -> Result<u64, ReadRefusal>
-        ensures gives { Gives (λ n. n) result self.now self.now (modulus at indices.now) }
-        ensures some { IfOk result (λ n. 0 < n) }
-        ensures small { IfOk result (λ n. n < 2 ^ 63) }
-    {
-        match indices {
-            [index] => match numeral(index) {
-                Some(digits) => {
-                    let n = self.number(place(index), digits)?;
-                    if n == 0 {
-                        return Err(refused(ReadKind::Unsupported, place(index)));
-                    }
-                    Ok(n)
-                }
-                None => Err(refused(ReadKind::Syntax, at)),
-            },
-            _ => Err(refused(ReadKind::Syntax, at)),
-        }
-    }
 
     /// A term with lists less than `depth` deep.
     #[cycle(term)]
