@@ -1,4 +1,6 @@
-use crate::{Leaf, ListReader, Position, ReadKind, ReadRefusal, SExpr};
+use crate::{
+    Leaf, ListReader, Position, ReadKind, ReadRefusal, SExpr, is_decimal_digit, is_in_symbol,
+};
 use std::alloc::{AllocError, Global};
 use std::process::Abort;
 use std::test::Fail;
@@ -385,6 +387,20 @@ fn each_byte_in_each_context(rt: HostRuntime) -> Result<(), Fail> {
         }
     }
     Ok(())
+}
+
+#[test]
+fn bytes_of_simple_symbols(rt: HostRuntime) {
+    for b in 0..=255u8 {
+        let class = class_of(b);
+        let is_digit = matches!(class, Class::Digit);
+        assert_eq!(rt; is_decimal_digit(b), is_digit, "{b}");
+        assert_eq!(rt;
+            is_in_symbol(b),
+            is_digit || matches!(class, Class::Symbol),
+            "{b}"
+        );
+    }
 }
 
 /// What a text gives that repeats some bytes between two others.
