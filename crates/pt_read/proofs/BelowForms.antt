@@ -1,6 +1,6 @@
 -- Sums, differences and multiples of forms have no other variables.
-use Rattle.std.proofs.Common.{◌≡◌, ℕ, ◌<◌, ◌==◌, Bool, true, false, nat_lt, if◌then◌else◌, List, [], ◌∷◌, ◌++◌, ℤ, negsuc, refl, subst, ap, sym, arith}
-use Rattle.std.specs.Prelude.{◌+ℤ◌, ◌*ℤ◌, Result, Ok, Err}
+use Rattle.std.proofs.Common.{◌≡◌, ℕ, ◌<◌, ◌==◌, true, false, nat_lt, if◌then◌else◌, List, [], ◌∷◌, ◌++◌, ℤ, negsuc}
+use Rattle.std.specs.Prelude.{◌+ℤ◌, ◌*ℤ◌}
 use Rattle.pt_formula.specs.Forms.{Term, is_zero}
 use Rattle.pt_formula.specs.Sums.{term_list, add_term, sum_terms, scale_terms, form_sum, form_scale, form_difference}
 use Rattle.pt_formula.specs.declared.form.Form.{Form}

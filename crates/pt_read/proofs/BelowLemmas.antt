@@ -1,7 +1,7 @@
 -- Variables of nodes that are appended, below a number.
-use Rattle.std.proofs.Common.{◌≡◌, ℕ, zero, suc, ◌+◌, ◌<◌, ◌≤◌, ◌==◌, ◌||◌, ◌⊎◌, inl, inr, Bool, true, false, not, cond, nat_lt, nat_le, if◌then◌else◌, List, [], ◌∷◌, ◌++◌, length, map, filter, Ok, Err, refl, ap, sym, subst, ◌∙◌, length-append, append_assoc, arith}
+use Rattle.std.proofs.Common.{◌≡◌, ℕ, zero, suc, ◌<◌, ◌≤◌, ◌==◌, ◌||◌, ◌⊎◌, inl, inr, Bool, true, false, not, cond, nat_lt, nat_le, if◌then◌else◌, List, [], ◌∷◌, ◌++◌, length, map, Ok, Err, refl, ap, sym, subst, ◌∙◌, length-append, append_assoc, arith}
 use Rattle.std.specs.Prelude.{slice_get, Some, None, Result}
-use Rattle.std.specs.List.{list_any, AllByRecursion}
+use Rattle.std.specs.List.{AllByRecursion}
 use Rattle.std.proofs.lemmas.Bool.Decides.{nat_tests}
 use Rattle.pt_formula.specs.declared.node.Node.{Node}
 use Rattle.pt_formula.specs.declared.node.Node.TheVariants as node
@@ -14,7 +14,7 @@ use Rattle.pt_formula.specs.declared.fault.FormulaFault.TheVariants.{Tracks, Nod
 use Rattle.pt_formula.specs.Forms.{Term}
 use Rattle.std.proofs.lemmas.List.{append-nil}
 use Rattle.pt_formula.specs.Truth.{insert_var, union, without, free_variables}
-use Rattle.pt_formula.specs.Formulas.{node_at, entry_node, children, node_tree, tree_of, variables_of, op_node, truth_node, contains, made, made_exists, Builds, IsFormula, IsNode}
+use Rattle.pt_formula.specs.Formulas.{node_at, entry_node, children, node_tree, tree_of, variables_of, op_node, truth_node, contains, made, made_exists, Builds, IsFormula}
 use Rattle.pt_read.specs.Sound.{AreBelow, AreTermsBelow}
 use Rattle.pt_read.specs.Below.{BindsBelow}
 use Rattle.pt_read.specs.Elaboration.{Work}

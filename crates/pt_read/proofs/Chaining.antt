@@ -1,10 +1,10 @@
 -- Conjunctions of pairs, by parts.
-use Rattle.std.proofs.Common.{◌≡◌, ℕ, zero, suc, ◌+◌, List, [], ◌∷◌, ◌++◌, map, take, drop, length, Option, Some, None, refl, ap, sym, ◌∙◌, arith}
+use Rattle.std.proofs.Common.{◌≡◌, ℕ, List, [], ◌∷◌, ◌++◌, Option, Some, None, refl, ap, sym, ◌∙◌}
 use Rattle.std.specs.Prelude.{Result, Ok, Err}
 use Rattle.pt_formula.specs.declared.node.Position.{Position}
 use Rattle.pt_syntax.specs.declared.kinds.ReadRefusal.{ReadRefusal}
-use Rattle.pt_read.specs.Elaboration.{Work, Elab, give, follow, ◌>>=◌, make, each}
-use Rattle.pt_read.specs.Terms.{Argument, truth, conjunction, and_all, later_pairs, implication, distinct}
+use Rattle.pt_read.specs.Elaboration.{Work, Elab, give, follow, ◌>>=◌, each}
+use Rattle.pt_read.specs.Terms.{conjunction, and_all, implication}
 use Rattle.pt_read.specs.Chains.{with_next, next, run, close, implied, implied_by}
 
 follow_same : {A B : Type 0} (r : Result (A × Work) ReadRefusal) (f g : A → Elab B) → ((a : A) (w : Work) → f a w ≡ g a w) → follow r f ≡ follow r g

@@ -1,21 +1,18 @@
 -- A scope in which a command is elaborated: what it asks for, and what it is afterwards.
-use Rattle.std.proofs.Common.{◌≡◌, ◌⊎◌, inl, inr, ℕ, suc, ◌+◌, ◌<◌, ◌≤◌, ◌==◌, Bool, true, false, List, [], ◌∷◌, ◌++◌, length, map, arith, refl, sym, ap, subst, ◌∙◌}
-use Rattle.std.proofs.lemmas.Bool.Decides.{nat_tests}
-use Rattle.std.specs.Prelude.{Result, Ok, Err, Option, Some, None, slice_get, IfOk, IfSome}
+use Rattle.std.proofs.Common.{◌≡◌, ◌⊎◌, inl, inr, ℕ, ◌<◌, ◌≤◌, List, [], ◌∷◌, ◌++◌, length, map, refl, sym, ap, subst, ◌∙◌}
+use Rattle.std.specs.Prelude.{Result, Ok, Err, Some, IfOk, IfSome}
 use Rattle.std.specs.List.{AllByRecursion}
-use Rattle.pt_sets.specs.Elements.{ContainsByRecursion, AnyByRecursion}
-use Rattle.pt_formula.specs.declared.node.Node.{Node}
+use Rattle.pt_sets.specs.Elements.{ContainsByRecursion}
 use Rattle.pt_formula.specs.declared.node.Position.{Position}
 use Rattle.pt_formula.specs.Forms.{Term}
-use Rattle.pt_formula.specs.Formulas.{start as start_formula, node_at, entry_node, children, node_tree, tree_of, variables_of, IsFormula}
+use Rattle.pt_formula.specs.Formulas.{node_at, entry_node, children, node_tree, tree_of, variables_of, IsFormula}
 use Rattle.pt_syntax.specs.declared.sexpr.SExpr.{SExpr}
 use Rattle.pt_syntax.specs.declared.kinds.ReadRefusal.{ReadRefusal}
 use Rattle.pt_read.specs.declared.command.Command.{Command}
-use Rattle.pt_read.specs.declared.command.Constant.{Constant}
 use Rattle.pt_read.specs.declared.command.Meaning.{Meaning}
 use Rattle.pt_read.specs.declared.command.Meaning.TheVariants.{Int, Bool as Truth}
 use Rattle.pt_read.specs.Elaboration.{Work}
-use Rattle.pt_read.specs.Scope.{State, Symbol, Assertion, Use, Constant_of, Defined, conjunction, last_conjunction, constants_in}
+use Rattle.pt_read.specs.Scope.{State, Symbol, Assertion, Use, Constant_of, Defined, last_conjunction}
 use Rattle.pt_read.specs.Sound.{AreBelow, AreTermsBelow, IsMeaningIn, IsUseIn, IsEnvIn}
 use Rattle.pt_read.specs.Gives.{Gives, Grows}
 use Rattle.pt_read.specs.Lasting.{IsConstantUpTo, IsUseSound, IsSound}
@@ -23,7 +20,7 @@ use Rattle.pt_read.specs.Environment.{outermost}
 use Rattle.pt_read.specs.Standing.{LastIs, Stands, commanded, joined}
 use Rattle.pt_read.specs.Context.{IsKindIn}
 use Rattle.pt_read.specs.Fits.{IsMeaning, free_of}
-use Rattle.pt_read.specs.Reader.{with_work, OnlyAdds, Elaborated}
+use Rattle.pt_read.specs.Reader.{with_work, Elaborated}
 use Rattle.pt_read.specs.Commands.{elaborate}
 use Rattle.pt_read.proofs.FreeSteps.{Nodes}
 use Rattle.pt_read.proofs.FreeNodes.{IsWhole, within-or-none}

@@ -1,5 +1,5 @@
 -- What is looked up in an environment.
-use Rattle.std.proofs.Common.{◌<◌, suc, All, reverse, ◌≡◌, ◌||◌, Bool, true, false, List, [], ◌∷◌, length, map, drop, ◌++◌, ◌-◌, ◌≤◌, ◌+◌, ℕ, IfOk, IfSome, refl, ap, sym, subst, ◌∙◌, length-append, arith}
+use Rattle.std.proofs.Common.{◌<◌, suc, All, reverse, ◌≡◌, Bool, true, false, List, [], ◌∷◌, length, map, drop, ◌++◌, ◌-◌, ◌≤◌, ℕ, IfOk, IfSome, refl, ap, sym, subst, ◌∙◌, length-append, arith}
 use Rattle.std.specs.Prelude.{Option, Some, None, option_map, is_some, Result, Ok, Err, IsTrue, if◌then◌else◌, bytes_eq}
 use Rattle.std.specs.List.{AllByRecursion}
 use Rattle.std.proofs.lemmas.List.{reverse-append, map-append}
@@ -8,11 +8,10 @@ use Rattle.pt_read.specs.declared.command.Meaning.TheVariants.{Int}
 use Rattle.pt_read.specs.Special.{as_bound, binding}
 use Rattle.pt_read.specs.Layers.{pair}
 use Rattle.pt_formula.specs.declared.node.Position.{Position}
-use Rattle.pt_syntax.specs.declared.kinds.ReadRefusal.{ReadRefusal}
 use Rattle.pt_syntax.specs.declared.kinds.ReadKind.TheVariants.{Sort}
 use Rattle.pt_read.specs.declared.command.Meaning.{Meaning}
 use Rattle.pt_read.specs.Elaboration.{Work, Elab, variable_form}
-use Rattle.pt_read.specs.Scope.{Name, Use, Constant_of, Defined, Symbol, find_symbol}
+use Rattle.pt_read.specs.Scope.{Name, Use, Defined, Symbol, find_symbol}
 use Rattle.pt_read.specs.Names.{Env, bind, find_bound, use_of, look_up, head_use, is_among, items_of}
 use Rattle.pt_read.specs.Sound.{IsMeaningIn, IsUseIn, IsEnvIn}
 use Rattle.pt_read.specs.Environment.{inside}

@@ -1,33 +1,29 @@
 -- An elaborated command fits the scope that it was elaborated in.
-use Rattle.std.proofs.Common.{◌≡◌, ◌⊎◌, inl, inr, ℕ, zero, suc, ◌+◌, ◌<◌, ◌≤◌, ◌==◌, nat_lt, nat_le, not, Bool, true, false, ◌||◌, if◌then◌else◌, List, [], ◌∷◌, ◌++◌, length, map, arith, refl, sym, ap, subst, ◌∙◌, length-append}
-use Rattle.std.proofs.lemmas.Bool.Decides.{nat_tests}
-use Rattle.std.specs.Prelude.{Result, Ok, Err, Option, Some, None, ⊤, IsTrue, filter, bytes_eq}
-use Rattle.std.specs.List.{AllByRecursion, list_all, list_any}
+use Rattle.std.proofs.Common.{◌≡◌, ◌⊎◌, inl, inr, ℕ, ◌<◌, ◌≤◌, nat_lt, nat_le, Bool, true, false, if◌then◌else◌, List, [], ◌∷◌, ◌++◌, length, map, refl, sym, ap, subst}
+use Rattle.std.specs.Prelude.{Result, Ok, Err, Some, filter, bytes_eq}
+use Rattle.std.specs.List.{AllByRecursion}
 use Rattle.pt_sets.specs.Elements.{ContainsByRecursion, AnyByRecursion}
 use Rattle.pt_formula.specs.declared.node.Node.{Node}
-use Rattle.pt_formula.specs.declared.node.Node.TheVariants as node
 use Rattle.pt_formula.specs.declared.node.Position.{Position}
 use Rattle.pt_formula.specs.declared.TheConstants.{MAX_TRACKS, MAX_NODES}
 use Rattle.pt_formula.specs.declared.fault.FormulaFault.TheVariants as fault
-use Rattle.pt_formula.specs.Forms.{Term, IsIncreasing}
+use Rattle.pt_formula.specs.Forms.{Term}
 use Rattle.pt_formula.specs.Truth.{free_variables}
-use Rattle.pt_formula.specs.Formulas.{node_at, entry_node, node_tree, tree_of, variables_of, made, contains}
+use Rattle.pt_formula.specs.Formulas.{node_tree, tree_of, variables_of}
 use Rattle.pt_syntax.specs.declared.kinds.ReadKind.{ReadKind}
 use Rattle.pt_syntax.specs.declared.kinds.ReadRefusal.{ReadRefusal}
 use Rattle.pt_read.specs.declared.command.Meaning.{Meaning}
 use Rattle.pt_read.specs.declared.command.Meaning.TheVariants.{Int, Bool as Truth}
 use Rattle.pt_read.specs.declared.command.Constant.{Constant}
-use Rattle.pt_read.specs.Elaboration.{Work, Elab, give, refuse, follow, ◌>>=◌, require, built, make}
-use Rattle.pt_read.specs.Scope.{Name, State, Symbol, Assertion, Use, Constant_of, Defined, find_symbol, is_live, conjunction, last_conjunction, constant_in, constants_in}
-use Rattle.pt_read.specs.Names.{Env}
+use Rattle.pt_read.specs.Elaboration.{Work, Elab, give, follow, ◌>>=◌, require, built, make}
+use Rattle.pt_read.specs.Scope.{Name, State, Symbol, Use, Constant_of, Defined, find_symbol, constant_in, constants_in}
 use Rattle.pt_read.specs.Sound.{AreBelow}
 use Rattle.pt_read.specs.Lasting.{IsConstantUpTo, IsUseSound, IsSound}
-use Rattle.pt_read.specs.Fits.{IsConstant, IsMeaning, free_of, ConjunctionOf}
-use Rattle.pt_read.specs.Reader.{with_work}
-use Rattle.pt_read.specs.Commands.{env, conjunction_with}
-use Rattle.pt_read.proofs.FreeSteps.{Nodes, IsFront, front-trans, front-same, front-length, Grown, BindsIn}
-use Rattle.pt_read.proofs.FreeNodes.{IsWhole, FreeIn, NodeIn, node-front, node-behind}
-use Rattle.pt_read.proofs.FreeTerms.{FormIn, MeaningIn}
+use Rattle.pt_read.specs.Fits.{IsConstant, IsMeaning, free_of}
+use Rattle.pt_read.specs.Commands.{env}
+use Rattle.pt_read.proofs.FreeSteps.{IsFront}
+use Rattle.pt_read.proofs.FreeNodes.{IsWhole}
+use Rattle.pt_read.proofs.FreeTerms.{MeaningIn}
 use Rattle.pt_read.proofs.FreeWholeTerms.{UseIn, EnvIn}
 
 -- ---- steps taken apart

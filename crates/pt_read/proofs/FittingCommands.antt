@@ -1,14 +1,12 @@
 -- An elaborated command fits the scope, kind by kind.
-use Rattle.std.proofs.Common.{◌≡◌, ◌⊎◌, inl, inr, ℕ, zero, suc, ◌+◌, ◌<◌, ◌≤◌, ◌==◌, nat_lt, nat_le, not, Bool, true, false, ◌||◌, ◌&&◌, if◌then◌else◌, List, [], ◌∷◌, ◌++◌, length, map, arith, refl, sym, ap, subst, ◌∙◌, length-append, append-nil}
+use Rattle.std.proofs.Common.{◌≡◌, inl, inr, ℕ, suc, ◌+◌, ◌<◌, ◌≤◌, ◌==◌, nat_le, not, Bool, true, false, ◌||◌, ◌&&◌, if◌then◌else◌, List, [], ◌∷◌, ◌++◌, length, arith, refl, sym, ap, subst, ◌∙◌, length-append, append-nil}
 use Rattle.std.proofs.lemmas.Bool.Decides.{nat_tests}
-use Rattle.std.specs.Prelude.{Result, Ok, Err, Option, Some, None, ⊤, IsTrue, ℤ, bytes_eq, codes, reverse}
-use Rattle.std.specs.List.{AllByRecursion, list_all, list_any}
-use Rattle.pt_sets.specs.Elements.{ContainsByRecursion, AnyByRecursion}
-use Rattle.pt_formula.specs.declared.node.Node.{Node}
+use Rattle.std.specs.Prelude.{Ok, Option, Some, None, ⊤, bytes_eq, codes}
+use Rattle.std.specs.List.{AllByRecursion, list_all}
+use Rattle.pt_sets.specs.Elements.{ContainsByRecursion}
 use Rattle.pt_formula.specs.declared.node.Node.TheVariants as node
 use Rattle.pt_formula.specs.declared.node.Position.{Position}
 use Rattle.pt_formula.specs.declared.TheConstants.{MAX_TRACKS}
-use Rattle.pt_formula.specs.Forms.{IsIncreasing}
 use Rattle.pt_formula.specs.Formulas.{node_at, variables_of, contains}
 use Rattle.pt_syntax.specs.declared.sexpr.SExpr.{SExpr}
 use Rattle.pt_syntax.specs.declared.kinds.ReadKind.TheVariants.{Sort, Unsupported, Tracks, Redeclared}
@@ -19,17 +17,16 @@ use Rattle.pt_read.specs.declared.command.Predicate.{Predicate}
 use Rattle.pt_read.specs.declared.command.CommandKind.{CommandKind}
 use Rattle.pt_read.specs.declared.command.CommandKind.TheVariants as kind
 use Rattle.pt_read.specs.Elaboration.{Work, Elab, give, refuse, ◌>>=◌, require, make, fresh, each}
-use Rattle.pt_read.specs.Scope.{Name, State, Symbol, Assertion, Use, Constant_of, Defined, find_symbol, is_live, conjunction, constants_in}
-use Rattle.pt_read.specs.Names.{Env, place_of, symbol_of, items_of, is_reserved, is_among}
-use Rattle.pt_read.specs.Terms.{truth_of, form_of, nodes_now}
-use Rattle.pt_read.specs.Special.{name_of, items_or_none, term, term_within, int_sort}
+use Rattle.pt_read.specs.Scope.{Name, State, Assertion, Use, Constant_of, Defined, find_symbol, is_live, conjunction}
+use Rattle.pt_read.specs.Names.{Env, place_of, symbol_of, is_reserved}
+use Rattle.pt_read.specs.Terms.{truth_of}
+use Rattle.pt_read.specs.Special.{name_of, term, int_sort}
 use Rattle.pt_read.specs.Sound.{AreBelow}
-use Rattle.pt_read.specs.Lasting.{IsUseSound, IsSound}
-use Rattle.pt_read.specs.Fits.{FitsKind, IsConstant, IsNewConstant, IsNewAssertion, IsNode, IsPredicate, IsUnbound, ConjunctionOf}
+use Rattle.pt_read.specs.Fits.{FitsKind, IsConstant, IsNewConstant, IsPredicate, ConjunctionOf}
 use Rattle.pt_read.specs.Reader.{with_work}
 use Rattle.pt_read.specs.Commands
-use Rattle.pt_read.proofs.FreeSteps.{Good, IsFront, front-trans, front-same, front-length, Grown, BindsIn}
-use Rattle.pt_read.proofs.FreeNodes.{IsWhole, FreeIn, NodeIn, node-front, node-behind}
+use Rattle.pt_read.proofs.FreeSteps.{Good, IsFront, front-same, front-length}
+use Rattle.pt_read.proofs.FreeNodes.{NodeIn, node-behind}
 use Rattle.pt_read.proofs.FreeTerms.{MeaningIn}
 use Rattle.pt_read.proofs.FreeWholeTerms.{EnvIn, good-term-within}
 use Rattle.pt_read.proofs.Fitting.{then-inv, give-inv, require-inv, make-inv, IsStep, start, old-variables, scope-env, found-sound, constants-below}

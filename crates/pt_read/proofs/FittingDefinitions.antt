@@ -1,9 +1,9 @@
 -- An elaborated definition fits the scope.
-use Rattle.std.proofs.Common.{◌≡◌, ◌⊎◌, inl, inr, ℕ, zero, suc, ◌+◌, ◌<◌, ◌≤◌, ◌==◌, not, Bool, true, false, ◌||◌, if◌then◌else◌, List, [], ◌∷◌, ◌++◌, length, map, arith, refl, sym, ap, subst, ◌∙◌}
+use Rattle.std.proofs.Common.{◌≡◌, ◌⊎◌, inl, inr, ℕ, ◌+◌, ◌<◌, ◌≤◌, not, Bool, true, false, ◌||◌, if◌then◌else◌, List, [], ◌∷◌, ◌++◌, length, map, arith, refl, sym, ap, subst, ◌∙◌}
 use Rattle.std.proofs.lemmas.List.{reverse-append}
-use Rattle.std.specs.Prelude.{Ok, Option, Some, None, ⊤, bytes_eq, codes, reverse, slice_get}
+use Rattle.std.specs.Prelude.{Ok, Option, Some, None, bytes_eq, codes, reverse}
 use Rattle.std.specs.List.{AllByRecursion}
-use Rattle.pt_sets.specs.Elements.{ContainsByRecursion, AnyByRecursion}
+use Rattle.pt_sets.specs.Elements.{ContainsByRecursion}
 use Rattle.pt_formula.specs.declared.node.Node.TheVariants as node
 use Rattle.pt_formula.specs.declared.node.Position.{Position}
 use Rattle.pt_formula.specs.Forms.{Term, IsIncreasing}
@@ -12,26 +12,24 @@ use Rattle.pt_syntax.specs.declared.sexpr.SExpr.{SExpr}
 use Rattle.pt_syntax.specs.declared.kinds.ReadKind.TheVariants.{Redeclared, Unsupported}
 use Rattle.pt_read.specs.declared.command.Meaning.{Meaning}
 use Rattle.pt_read.specs.declared.command.Meaning.TheVariants.{Int, Bool as Truth}
-use Rattle.pt_read.specs.declared.command.Definition.{Definition}
 use Rattle.pt_read.specs.declared.command.CommandKind.{CommandKind}
 use Rattle.pt_read.specs.declared.command.CommandKind.TheVariants as kind
-use Rattle.pt_read.specs.Elaboration.{Work, Elab, give, refuse, ◌>>=◌, require, fresh, variable_form}
+use Rattle.pt_read.specs.Elaboration.{Work, Elab, give, refuse, ◌>>=◌, require, fresh}
 use Rattle.pt_read.specs.Scope.{Name, State, is_live}
-use Rattle.pt_read.specs.Names.{Env, place_of, symbol_of, items_of, is_reserved, is_among}
-use Rattle.pt_read.specs.Terms.{truth_of, form_of}
+use Rattle.pt_read.specs.Names.{place_of, symbol_of, items_of, is_reserved, is_among}
 use Rattle.pt_read.specs.Special
 use Rattle.pt_read.specs.Special.{name_of, items_or_none, term, int_sort, as_bound}
-use Rattle.pt_read.specs.Sound.{AreBelow, IsMeaningIn}
+use Rattle.pt_read.specs.Sound.{IsMeaningIn}
 use Rattle.pt_read.specs.Context.{IsKindIn}
-use Rattle.pt_read.specs.Fits.{FitsKind, IsConstant, IsNewDefinition, IsMeaning, IsUnbound, free_of}
+use Rattle.pt_read.specs.Fits.{FitsKind, IsConstant, IsMeaning, IsUnbound, free_of}
 use Rattle.pt_read.specs.Reader.{with_work}
 use Rattle.pt_read.specs.Commands
-use Rattle.pt_read.proofs.FreeSteps.{Nodes, IsFront, front-same, front-length, BindsIn, Good}
-use Rattle.pt_read.proofs.FreeNodes.{IsWhole, NodeIn, node-front, within-or-none}
+use Rattle.pt_read.proofs.FreeSteps.{Nodes, IsFront, front-same, BindsIn, Good}
+use Rattle.pt_read.proofs.FreeNodes.{node-front, within-or-none}
 use Rattle.pt_read.proofs.FreeTerms.{MeaningIn}
 use Rattle.pt_read.proofs.FreeWholeTerms.{EnvIn, BindingsIn, env-wider, good-term-within}
 use Rattle.pt_read.proofs.Fitting.{then-inv, give-inv, require-inv, IsStep, start, scope-env}
-use Rattle.pt_read.proofs.FittingCommands.{new-name-inv, fresh-inv, truth-inv}
+use Rattle.pt_read.proofs.FittingCommands.{new-name-inv, fresh-inv}
 
 -- ---- parameters
 

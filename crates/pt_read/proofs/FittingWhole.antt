@@ -1,16 +1,15 @@
 -- An elaborated command fits the scope: all kinds together.
-use Rattle.std.proofs.Common.{◌≡◌, ◌⊎◌, ℕ, ◌<◌, Bool, true, false, if◌then◌else◌, List, [], ◌∷◌, length, arith, refl, sym, ap, subst, ◌∙◌, ◌==◌}
+use Rattle.std.proofs.Common.{◌≡◌, ℕ, ◌<◌, Bool, true, false, if◌then◌else◌, List, [], ◌∷◌, length, arith, refl, sym, subst, ◌∙◌, ◌==◌}
 use Rattle.std.proofs.lemmas.Bool.Decides.{nat_tests}
-use Rattle.std.specs.Prelude.{Result, Ok, Err, Option, Some, None, ⊤, nat_lt, bytes_eq}
+use Rattle.std.specs.Prelude.{Ok, Option, Some, None, ⊤, nat_lt, bytes_eq}
 use Rattle.std.specs.List.{AllByRecursion}
 use Rattle.pt_formula.specs.declared.node.Position.{Position}
 use Rattle.pt_syntax.specs.declared.sexpr.SExpr.{SExpr}
-use Rattle.pt_syntax.specs.declared.kinds.ReadKind.TheVariants.{Syntax, Unsupported, Logic, Sort}
-use Rattle.pt_syntax.specs.declared.kinds.ReadRefusal.{ReadRefusal}
+use Rattle.pt_syntax.specs.declared.kinds.ReadKind.TheVariants.{Unsupported, Logic}
 use Rattle.pt_read.specs.declared.command.Command.{Command}
 use Rattle.pt_read.specs.declared.command.CommandKind.{CommandKind}
 use Rattle.pt_read.specs.declared.command.CommandKind.TheVariants as kind
-use Rattle.pt_read.specs.Elaboration.{Work, Elab, give, refuse, ◌>>=◌, require, each}
+use Rattle.pt_read.specs.Elaboration.{Work, give, ◌>>=◌, require}
 use Rattle.pt_read.specs.Scope.{Name, State}
 use Rattle.pt_read.specs.Names.{place_of, symbol_of, items_of, text_of, is_among}
 use Rattle.pt_read.specs.Special.{name_of, items_or_none, unless_faulty}

@@ -1,6 +1,6 @@
 -- Which variables are free in applications of the symbols of the theories.
-use Rattle.std.proofs.Common.{◌≡◌, ◌⊎◌, inl, inr, ℕ, zero, suc, ◌+◌, ◌<◌, ◌≤◌, nat_lt, ◌==◌, Bool, true, false, not, if◌then◌else◌, List, [], ◌∷◌, ◌++◌, length, map, arith, refl, sym, ap, subst, ◌∙◌}
-use Rattle.std.specs.Prelude.{ℤ, pos, negsuc, neg_ℤ, ⊤}
+use Rattle.std.proofs.Common.{◌≡◌, ℕ, Bool, true, false, not, if◌then◌else◌, List, [], ◌∷◌, map, refl, sym, subst}
+use Rattle.std.specs.Prelude.{pos, negsuc, neg_ℤ, ⊤}
 use Rattle.std.specs.Int.{int_rem_euclid}
 use Rattle.std.specs.List.{AllByRecursion}
 use Rattle.pt_formula.specs.declared.node.Node.{Node}
@@ -17,7 +17,7 @@ use Rattle.pt_read.specs.Names
 use Rattle.pt_read.specs.Terms
 use Rattle.pt_read.specs.Terms.{Argument}
 use Rattle.pt_read.proofs.FreeSteps.{Nodes, Good, Lasts, good-give, good-refuse, good-then, good-weaken}
-use Rattle.pt_read.proofs.FreeNodes.{IsWhole, FreeIn, NodeIn, PartsIn, Binds, good-make}
+use Rattle.pt_read.proofs.FreeNodes.{IsWhole, FreeIn, NodeIn, good-make}
 use Rattle.pt_read.proofs.FreeTerms.{FormIn, MeaningIn, ArgumentIn, ArgumentsIn, NodesIn, FormsIn, PairIn, IsJoin, node-lasts, form-lasts, meaning-lasts, all-last, all-append, good-truth, good-integer, good-truths, good-integers, good-as-truth, good-as-form, good-join, good-implication, good-choice, good-atom, good-form, sum-in, scale-in, difference-in, good-compare, good-different, good-conjunction}
 
 abbrev Both : (ℕ → Type 0) → Nodes → ℕ × ℕ → ℕ → Type 0

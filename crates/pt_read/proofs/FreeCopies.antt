@@ -1,7 +1,7 @@
 -- Which variables are free in an application of a definition: those of the arguments, and those of the body that are no parameters.
-use Rattle.std.proofs.Common.{◌≡◌, ◌⊎◌, inl, inr, ℕ, zero, suc, ◌+◌, ◌<◌, ◌≤◌, ◌==◌, nat_lt, not, Bool, true, false, if◌then◌else◌, List, [], ◌∷◌, ◌++◌, length, map, arith, refl, sym, ap, subst, ◌∙◌}
+use Rattle.std.proofs.Common.{◌≡◌, ◌⊎◌, inl, inr, ℕ, zero, suc, ◌+◌, ◌<◌, ◌≤◌, ◌==◌, nat_lt, not, Bool, true, false, if◌then◌else◌, List, [], ◌∷◌, length, map, arith, refl, sym, ap, subst, ◌∙◌}
 use Rattle.std.proofs.lemmas.Bool.Decides.{nat_tests}
-use Rattle.std.specs.Prelude.{Result, Ok, Err, ℤ, pos, ⊤, zip, filter, ◌-ℤ◌}
+use Rattle.std.specs.Prelude.{Result, Ok, Err, pos, ⊤, zip, filter, ◌-ℤ◌}
 use Rattle.std.specs.List.{AllByRecursion, range_with_len}
 use Rattle.pt_sets.specs.Elements.{ContainsByRecursion}
 use Rattle.pt_formula.specs.declared.node.Node.{Node}
@@ -16,13 +16,13 @@ use Rattle.pt_syntax.specs.declared.kinds.ReadKind.TheVariants.{Sort}
 use Rattle.pt_syntax.specs.declared.kinds.ReadRefusal.{ReadRefusal}
 use Rattle.pt_read.specs.declared.command.Meaning.{Meaning}
 use Rattle.pt_read.specs.declared.command.Meaning.TheVariants.{Int, Bool as Truth}
-use Rattle.pt_read.specs.Elaboration.{Work, Elab, give, refuse, follow, ◌>>=◌, make, make_exists, form, each, require, constant_form, variable_form}
+use Rattle.pt_read.specs.Elaboration.{Work, Elab, give, follow, ◌>>=◌, make_exists, form, each, require, constant_form}
 use Rattle.pt_read.specs.Terms
 use Rattle.pt_read.specs.Terms.{Argument}
 use Rattle.pt_read.proofs.ReachLaws.{reaches-closed, reaches-self}
-use Rattle.pt_read.proofs.FreeSteps.{Nodes, IsFront, front-trans, BindsIn, Grown, Good, Lasts, good-give, good-refuse, good-then, good-weaken, good-require}
-use Rattle.pt_read.proofs.FreeNodes.{IsWhole, FreeIn, NodeIn, PartsIn, Binds, old-or-last, within-or-none, node-front, good-make, good-exists}
-use Rattle.pt_read.proofs.FreeTerms.{FormIn, MeaningIn, ArgumentIn, ArgumentsIn, NodesIn, FormsIn, node-lasts, form-lasts, meaning-lasts, all-last, good-integers, good-as-truth, good-as-form, good-atom, good-form, sum-in, scale-in}
+use Rattle.pt_read.proofs.FreeSteps.{Nodes, IsFront, front-trans, BindsIn, Grown, Good, Lasts, good-give, good-then, good-weaken, good-require}
+use Rattle.pt_read.proofs.FreeNodes.{IsWhole, FreeIn, NodeIn, old-or-last, within-or-none, node-front, good-make, good-exists}
+use Rattle.pt_read.proofs.FreeTerms.{FormIn, MeaningIn, ArgumentIn, ArgumentsIn, FormsIn, node-lasts, form-lasts, meaning-lasts, all-last, good-integers, good-as-truth, good-as-form, good-atom, good-form, sum-in, scale-in}
 
 -- forms in place of variables
 abbrev Replaces : (ℕ → Type 0) → (ℕ → Type 0) → List (ℕ × Form) → Type 0

@@ -1,8 +1,8 @@
 -- Which variables are free in what a builder makes, over the whole formula that the nodes come to lie in.
 use Rattle.std.proofs.Common.{◌≡◌, ◌⊎◌, inl, inr, ℕ, zero, suc, ◌+◌, ◌<◌, ◌≤◌, nat_lt, nat_le, ◌==◌, Bool, true, false, not, ◌||◌, if◌then◌else◌, List, [], ◌∷◌, ◌++◌, length, map, arith, refl, sym, ap, subst, ◌∙◌, length-append}
 use Rattle.std.proofs.lemmas.Bool.Decides.{nat_tests}
-use Rattle.std.specs.Prelude.{Result, Ok, Err, Option, Some, None, slice_get, ⊤, filter}
-use Rattle.std.specs.List.{AllByRecursion, list_any}
+use Rattle.std.specs.Prelude.{Ok, Err, Some, None, slice_get, ⊤}
+use Rattle.std.specs.List.{AllByRecursion}
 use Rattle.pt_sets.specs.Elements.{ContainsByRecursion}
 use Rattle.pt_formula.specs.declared.node.Node.{Node}
 use Rattle.pt_formula.specs.declared.node.Node.TheVariants as node
@@ -10,9 +10,9 @@ use Rattle.pt_formula.specs.declared.node.Position.{Position}
 use Rattle.pt_formula.specs.declared.TheConstants.{MAX_TRACKS, MAX_NODES}
 use Rattle.pt_formula.specs.declared.fault.FormulaFault.TheVariants as fault
 use Rattle.pt_formula.specs.Forms.{Term}
-use Rattle.pt_formula.specs.Truth.{Tree, insert_var, union, without, free_variables}
-use Rattle.pt_formula.specs.Formulas.{node_at, children, entry_node, node_tree, tree_of, variables_of, made, made_exists, contains}
-use Rattle.pt_read.specs.Elaboration.{Work, Elab, built, make, make_exists}
+use Rattle.pt_formula.specs.Truth.{insert_var, union, without, free_variables}
+use Rattle.pt_formula.specs.Formulas.{node_at, children, entry_node, node_tree, tree_of, variables_of, made, contains}
+use Rattle.pt_read.specs.Elaboration.{Work, built, make, make_exists}
 use Rattle.pt_read.proofs.FreeSteps.{Nodes, IsFront, front-same, Grown, BindsIn, Good}
 
 -- the laws of a whole formula: its fronts have its variables, trees are made of those of the children, and children come earlier

@@ -1,25 +1,24 @@
 -- Which variables are free in what terms stand for: those of the names that they see.
-use Rattle.std.proofs.Common.{◌≡◌, ◌⊎◌, inl, inr, ℕ, zero, suc, ◌+◌, ◌<◌, ◌≤◌, nat_lt, ◌==◌, Bool, true, false, not, ◌||◌, if◌then◌else◌, List, [], ◌∷◌, ◌++◌, length, map, arith, refl, sym, ap, subst, ◌∙◌}
+use Rattle.std.proofs.Common.{ℕ, nat_lt, ◌==◌, Bool, true, false, if◌then◌else◌, List, [], ◌∷◌, ◌++◌, arith}
 use Rattle.std.specs.Prelude.{ℤ, pos, negsuc, neg_ℤ, ◌-ℤ◌, ◌+ℤ◌, ◌*ℤ◌, ⊤}
 use Rattle.std.specs.List.{AllByRecursion}
-use Rattle.pt_sets.specs.Elements.{ContainsByRecursion}
 use Rattle.pt_formula.specs.declared.node.Node.{Node}
 use Rattle.pt_formula.specs.declared.node.Node.TheVariants as node
 use Rattle.pt_formula.specs.declared.node.Position.{Position}
 use Rattle.pt_formula.specs.declared.form.Form.{Form}
 use Rattle.pt_atoms.specs.declared.Kind.{Kind}
-use Rattle.pt_atoms.specs.declared.Kind.TheVariants.{Eq, Le, Mod}
+use Rattle.pt_atoms.specs.declared.Kind.TheVariants.{Eq, Le}
 use Rattle.pt_formula.specs.Forms.{Term, is_zero}
 use Rattle.pt_formula.specs.Sums.{fits, fits_form, has_few_terms, term_list, add_term, sum_terms, scale_terms, form_sum, form_difference, form_scale}
 use Rattle.pt_formula.specs.Formulas.{truth_node}
-use Rattle.pt_syntax.specs.declared.kinds.ReadKind.TheVariants.{Sort, Nonlinear, Coefficient, Tracks, Unsupported}
+use Rattle.pt_syntax.specs.declared.kinds.ReadKind.TheVariants.{Sort, Coefficient, Tracks}
 use Rattle.pt_read.specs.declared.command.Meaning.{Meaning}
 use Rattle.pt_read.specs.declared.command.Meaning.TheVariants.{Int, Bool as Truth}
 use Rattle.pt_read.specs.Elaboration.{Elab, give, refuse, ◌>>=◌, make, form, each}
 use Rattle.pt_read.specs.Names
 use Rattle.pt_read.specs.Terms
 use Rattle.pt_read.specs.Terms.{Argument}
-use Rattle.pt_read.proofs.FreeSteps.{Nodes, Good, Lasts, good-give, good-refuse, good-then, good-weaken, good-each}
+use Rattle.pt_read.proofs.FreeSteps.{Nodes, Good, Lasts, good-give, good-refuse, good-then, good-weaken}
 use Rattle.pt_read.proofs.FreeNodes.{IsWhole, FreeIn, NodeIn, PartsIn, Binds, good-make}
 
 -- all variables of a form are in V

@@ -1,5 +1,5 @@
 -- Which variables are free in whole terms: those of the names that are bound or live.
-use Rattle.std.proofs.Common.{◌≡◌, ◌⊎◌, inl, inr, ℕ, zero, suc, ◌+◌, ◌<◌, ◌≤◌, ◌==◌, nat_lt, not, Bool, true, false, ◌||◌, if◌then◌else◌, List, [], ◌∷◌, ◌++◌, length, map, arith, refl, sym, ap, subst, ◌∙◌}
+use Rattle.std.proofs.Common.{◌≡◌, ◌⊎◌, inl, inr, ℕ, zero, suc, ◌==◌, nat_lt, not, Bool, true, false, ◌||◌, if◌then◌else◌, List, [], ◌∷◌, ◌++◌, map, refl}
 use Rattle.std.specs.Prelude.{Option, Some, None, pos, ⊤, ◌^◌, bytes_eq, codes}
 use Rattle.std.specs.List.{AllByRecursion}
 use Rattle.pt_sets.specs.Elements.{ContainsByRecursion}
@@ -11,7 +11,6 @@ use Rattle.pt_syntax.specs.declared.sexpr.Leaf.TheVariants.{Numeral, Constant, T
 use Rattle.pt_syntax.specs.declared.sexpr.SExpr.{SExpr, out-SExpr}
 use Rattle.pt_syntax.specs.declared.sexpr.SExpr.TheOpen as layer
 use Rattle.pt_syntax.specs.declared.sexpr.SExpr.TheOpen.{SExpr-F}
-use Rattle.pt_syntax.specs.declared.kinds.ReadKind.{ReadKind}
 use Rattle.pt_syntax.specs.declared.kinds.ReadKind.TheVariants.{Syntax, Unknown, Sort, Coefficient, Unsupported, Redeclared}
 use Rattle.pt_syntax.specs.Bytes.{numeral_value}
 use Rattle.pt_read.specs.declared.command.Meaning.{Meaning}
@@ -24,8 +23,8 @@ use Rattle.pt_read.specs.Terms
 use Rattle.pt_read.specs.Terms.{Argument, truth_of, as_truth}
 use Rattle.pt_read.specs.Special
 use Rattle.pt_read.proofs.FreeSteps.{Nodes, Good, Lasts, good-give, good-refuse, good-then, good-weaken, good-require, good-fresh, good-each}
-use Rattle.pt_read.proofs.FreeNodes.{IsWhole, FreeIn, NodeIn, good-make, good-exists}
-use Rattle.pt_read.proofs.FreeTerms.{MeaningIn, ArgumentIn, ArgumentsIn, node-lasts, meaning-lasts, all-last, good-as-truth}
+use Rattle.pt_read.proofs.FreeNodes.{IsWhole, NodeIn, good-make, good-exists}
+use Rattle.pt_read.proofs.FreeTerms.{MeaningIn, ArgumentIn, ArgumentsIn, meaning-lasts, all-last, good-as-truth}
 use Rattle.pt_read.proofs.FreeApplications.{good-apply, good-divides}
 use Rattle.pt_read.proofs.FreeCopies.{meaning-wider, good-call}
 

@@ -1,13 +1,13 @@
 -- Nested lists, a layer at a time.
-use Rattle.std.proofs.Common.{◌≡◌, ℕ, zero, suc, ◌<◌, ◌-◌, List, [], ◌∷◌, refl, ap, sym, ◌∙◌, arith}
-use Rattle.std.specs.Prelude.{Option, Some, None}
+use Rattle.std.proofs.Common.{◌≡◌, List, ap, sym, ◌∙◌}
+use Rattle.std.specs.Prelude.{Some, None}
 use Rattle.pt_formula.specs.declared.node.Position.{Position}
 use Rattle.pt_syntax.specs.declared.sexpr.Leaf.{Leaf}
 use Rattle.pt_syntax.specs.declared.sexpr.SExpr.{SExpr, out-SExpr, out-roll-SExpr}
 use Rattle.pt_syntax.specs.declared.sexpr.SExpr.TheOpen as layer
 use Rattle.pt_syntax.specs.declared.sexpr.SExpr.TheVariants as sexpr
 use Rattle.pt_syntax.specs.declared.sexpr.SExpr.TheVariants.{rolls-Leaf, rolls-List}
-use Rattle.pt_read.specs.Names.{Env, place_of, place_of_layer, symbol_of, symbol_in, leaf_of_layer, numeral_of, numeral_in, keyword_of, keyword_in, text_of, text_in, items_of, items_of_layer}
+use Rattle.pt_read.specs.Names.{place_of, place_of_layer, symbol_of, symbol_in, leaf_of_layer, numeral_of, numeral_in, keyword_of, keyword_in, text_of, text_in, items_of, items_of_layer}
 
 pub out_leaf : (leaf : Leaf) (p : Position) → out-SExpr (sexpr.Leaf leaf p) ≡ layer.Leaf leaf p
 out_leaf leaf p = ap out-SExpr (sym (rolls-Leaf leaf p)) ∙ out-roll-SExpr (layer.Leaf leaf p)

@@ -1,9 +1,9 @@
 -- Entries in the order of their levels, and those of a front.
-use Rattle.std.proofs.Common.{◌≡◌, ◌⊎◌, inl, inr, ℕ, zero, suc, ◌+◌, ◌-◌, ◌<◌, ◌≤◌, nat_le, Bool, true, false, cond, List, [], ◌∷◌, ◌++◌, length, map, filter, take, slice_get, Some, refl, sym, ap, subst, ◌∙◌, arith, length-append}
+use Rattle.std.proofs.Common.{◌≡◌, ℕ, zero, suc, ◌+◌, ◌<◌, ◌≤◌, nat_le, Bool, true, false, cond, List, [], ◌∷◌, ◌++◌, length, map, filter, take, slice_get, Some, refl, sym, ap, subst, ◌∙◌, arith, length-append}
 use Rattle.std.proofs.lemmas.Bool.Decides.{nat_tests}
 use Rattle.std.specs.List.{AllByRecursion}
 use Rattle.pt_read.specs.declared.command.Constant.{Constant}
-use Rattle.pt_read.specs.Scope.{State, Symbol, Assertion, Use, Constant_of, Defined, constant_in, constants_in, last_conjunction}
+use Rattle.pt_read.specs.Scope.{Symbol, Assertion, Use, Constant_of, Defined, constant_in, constants_in, last_conjunction}
 use Rattle.pt_read.specs.Symbols.{constant_count}
 use Rattle.pt_read.specs.declared.scope.Assertion as kept
 use Rattle.pt_read.specs.Kept.{AreOrdered, shown_assertion}

@@ -1,6 +1,6 @@
 -- Copies of nodes, with the new numbers in a list.
-use Rattle.std.proofs.Common.{◌≡◌, ◌⊎◌, inl, inr, ℕ, zero, suc, ◌+◌, ◌-◌, ◌<◌, ◌≤◌, ◌==◌, Bool, true, false, cond, if◌then◌else◌, List, [], ◌∷◌, ◌++◌, map, filter, drop, get_or, slice_index_or, length, All, refl, ap, sym, subst, ◌∙◌, add-one, drop-cons, length-append, arith}
-use Rattle.std.specs.Prelude.{Result, Ok, Err, slice_get}
+use Rattle.std.proofs.Common.{◌≡◌, inl, inr, ℕ, zero, suc, ◌+◌, ◌<◌, ◌≤◌, ◌==◌, Bool, true, false, cond, if◌then◌else◌, List, [], ◌∷◌, ◌++◌, map, filter, drop, get_or, slice_index_or, length, All, refl, ap, sym, subst, ◌∙◌, add-one, drop-cons, length-append, arith}
+use Rattle.std.specs.Prelude.{Result, Ok, slice_get}
 use Rattle.std.specs.List.{range_with_len}
 use Rattle.std.proofs.lemmas.Bool.Decides.{nat_tests}
 use Rattle.pt_formula.specs.declared.node.Node.{Node}
@@ -10,7 +10,7 @@ use Rattle.pt_formula.specs.declared.form.Form.{Form}
 use Rattle.pt_formula.specs.Formulas.{node_at, entry_node}
 use Rattle.pt_syntax.specs.declared.kinds.ReadRefusal.{ReadRefusal}
 use Rattle.pt_read.specs.Elaboration.{Work, Elab, give, follow, ◌>>=◌}
-use Rattle.pt_read.specs.Terms.{copy, copy_of, copy_node, copy_nodes, reached, reaches_within}
+use Rattle.pt_read.specs.Terms.{copy, copy_of, copy_node, copy_nodes, reaches_within}
 use Rattle.pt_read.specs.Copies.{copied_node, new_number, next_number, numbered, marks_of}
 use Rattle.pt_read.specs.Gives.{Fails, Grows}
 use Rattle.pt_read.proofs.Steps.{fails_first, given_then}

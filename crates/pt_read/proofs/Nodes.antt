@@ -1,12 +1,12 @@
 -- Nodes of a formula whose variables have been given out.
-use Rattle.std.proofs.Common.{◌≡◌, ℕ, ◌<◌, List, [], ◌∷◌, ◌++◌, map, length, refl, ap, sym, subst, ◌∙◌, arith}
+use Rattle.std.proofs.Common.{◌≡◌, ℕ, ◌<◌, List, [], ◌∷◌, map, length, refl, subst}
 use Rattle.std.specs.List.{AllByRecursion}
 use Rattle.pt_formula.specs.declared.node.Node.{Node}
 use Rattle.pt_formula.specs.declared.node.Node.TheVariants as node
 use Rattle.pt_formula.specs.declared.node.Position.{Position}
 use Rattle.pt_formula.specs.Forms.{Term}
 use Rattle.pt_formula.specs.Truth.{free_variables}
-use Rattle.pt_formula.specs.Formulas.{node_at, children, node_tree, tree_of, variables_of, HasTerms, IsFormula}
+use Rattle.pt_formula.specs.Formulas.{node_at, children, node_tree, tree_of, HasTerms, IsFormula}
 use Rattle.pt_read.specs.Sound.{AreBelow, AreTermsBelow}
 use Rattle.pt_read.specs.Copies.{IsNodeBelow}
 use Rattle.pt_read.proofs.BelowLemmas.{variables_below}

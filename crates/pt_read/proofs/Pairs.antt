@@ -1,10 +1,10 @@
 -- Turns of the loops over pairs.
-use Rattle.std.proofs.Common.{◌≡◌, ◌⊎◌, inl, inr, ℕ, suc, ◌+◌, ◌-◌, ◌<◌, ◌≤◌, List, [], ◌∷◌, ◌++◌, map, take, drop, get_or, length, Option, Some, None, refl, ap, sym, subst, ◌∙◌, add-one, drop-cons, arith}
+use Rattle.std.proofs.Common.{◌≡◌, inl, inr, ℕ, ◌+◌, ◌-◌, ◌<◌, ◌≤◌, List, ◌∷◌, ◌++◌, map, take, drop, get_or, length, Option, Some, sym, subst, ◌∙◌, add-one, drop-cons, arith}
 use Rattle.std.proofs.lemmas.List.{take-append-drop}
-use Rattle.std.specs.Prelude.{Result, Ok, Err}
+use Rattle.std.specs.Prelude.{Result, Ok}
 use Rattle.pt_formula.specs.declared.node.Position.{Position}
 use Rattle.pt_syntax.specs.declared.kinds.ReadRefusal.{ReadRefusal}
-use Rattle.pt_read.specs.Elaboration.{Work, Elab, give, follow, ◌>>=◌}
+use Rattle.pt_read.specs.Elaboration.{Work, Elab, ◌>>=◌}
 use Rattle.pt_read.specs.Gives.{Fails}
 use Rattle.pt_read.specs.Terms.{neighbours, later_pairs}
 use Rattle.pt_read.specs.Chains.{next, run, close, implied, implied_by}

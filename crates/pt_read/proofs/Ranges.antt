@@ -1,9 +1,8 @@
 -- What is in the range of the work stays so while it grows.
-use Rattle.std.proofs.Common.{◌≡◌, ℕ, ◌<◌, ◌≤◌, List, [], ◌∷◌, ◌++◌, length, All, slice_index_or, get_or, sym, subst, Option, Some, None, IfSome, refl, arith}
+use Rattle.std.proofs.Common.{◌≡◌, ℕ, ◌<◌, ◌≤◌, List, [], ◌∷◌, length, All, slice_index_or, get_or, sym, subst, Option, Some, None, IfSome, arith}
 use Rattle.std.specs.List.{AllByRecursion}
 use Rattle.pt_formula.specs.Forms.{Term}
 use Rattle.pt_formula.specs.declared.form.Form.{Form}
-use Rattle.pt_formula.specs.declared.node.Position.{Position}
 use Rattle.pt_read.specs.declared.command.Meaning.{Meaning}
 use Rattle.pt_read.specs.declared.command.Meaning.TheVariants.{Int, Bool as Truth}
 use Rattle.pt_read.specs.Elaboration.{Work}

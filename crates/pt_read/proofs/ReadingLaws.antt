@@ -1,6 +1,6 @@
 -- The next list, elaborated, is the next command.
-use Rattle.std.proofs.Common.{◌≡◌, List, refl, sym, ap, subst, ◌∙◌}
-use Rattle.std.specs.Prelude.{Result, Ok, Err, Option, Some, None}
+use Rattle.std.proofs.Common.{◌≡◌, List, refl, ap, subst}
+use Rattle.std.specs.Prelude.{Ok, Some, None}
 use Rattle.pt_formula.specs.declared.node.Position.{Position}
 use Rattle.pt_syntax.specs.declared.sexpr.SExpr.{SExpr}
 use Rattle.pt_syntax.specs.Lists.{Script, Done, Stops, Command as Reads_list}

@@ -1,5 +1,5 @@
 -- What a command stands for depends on the live names and the conjunction alone.
-use Rattle.std.proofs.Common.{◌≡◌, ℕ, ◌==◌, Bool, List, [], ◌∷◌, length, Option, Some, None, IfSome, ◌<◌, refl, ap, sym, subst, ◌∙◌, arith}
+use Rattle.std.proofs.Common.{◌≡◌, ℕ, ◌==◌, List, [], ◌∷◌, length, Option, Some, None, IfSome, ◌<◌, refl, ap, sym, subst, ◌∙◌, arith}
 use Rattle.std.specs.Prelude.{Result, Ok, Err, false, if◌then◌else◌}
 use Rattle.std.proofs.lemmas.Bool.Decides.{nat_tests}
 use Rattle.pt_formula.specs.declared.node.Node.{Node}
@@ -8,9 +8,8 @@ use Rattle.pt_formula.specs.declared.node.Position.{Position}
 use Rattle.pt_syntax.specs.declared.sexpr.SExpr.{SExpr}
 use Rattle.pt_syntax.specs.declared.kinds.ReadRefusal.{ReadRefusal}
 use Rattle.pt_read.specs.declared.command.Command.{Command}
-use Rattle.pt_read.specs.declared.command.CommandKind.{CommandKind}
 use Rattle.pt_read.specs.declared.command.CommandKind.TheVariants as kind
-use Rattle.pt_read.specs.Elaboration.{Work, Elab, give, follow, ◌>>=◌, make}
+use Rattle.pt_read.specs.Elaboration.{Work, Elab, give, follow, make}
 use Rattle.pt_read.specs.Scope.{State, Symbol, Assertion, conjunction, last_conjunction}
 use Rattle.pt_read.specs.Names.{place_of, symbol_of}
 use Rattle.pt_read.specs.Terms.{truth_of}

@@ -1,21 +1,18 @@
 -- What is kept of a scope is kept by each command that fits it.
-use Rattle.std.proofs.Common.{◌≡◌, ◌⊎◌, inl, inr, ℕ, zero, suc, ◌+◌, ◌-◌, ◌<◌, ◌≤◌, nat_le, Bool, true, false, if◌then◌else◌, List, [], ◌∷◌, ◌++◌, length, map, take, filter, arith, refl, sym, ap, subst, ◌∙◌}
+use Rattle.std.proofs.Common.{◌≡◌, ◌⊎◌, inl, inr, ℕ, ◌+◌, ◌-◌, ◌<◌, ◌≤◌, nat_le, Bool, true, false, if◌then◌else◌, List, [], ◌∷◌, ◌++◌, length, filter, arith, refl, sym, ap, subst}
 use Rattle.std.proofs.lemmas.Bool.Decides.{nat_tests}
-use Rattle.std.specs.Prelude.{⊤}
 use Rattle.std.specs.List.{AllByRecursion}
 use Rattle.pt_sets.specs.Elements.{ContainsByRecursion, AnyByRecursion}
-use Rattle.pt_formula.specs.Forms.{Term, IsIncreasing}
 use Rattle.pt_formula.specs.Formulas.{variables_of}
 use Rattle.pt_read.specs.declared.command.Meaning.{Meaning}
 use Rattle.pt_read.specs.declared.command.Meaning.TheVariants.{Int, Bool as Truth}
 use Rattle.pt_read.specs.declared.command.Constant.{Constant}
-use Rattle.pt_read.specs.declared.command.Definition.{Definition}
 use Rattle.pt_read.specs.declared.command.CommandKind.{CommandKind}
 use Rattle.pt_read.specs.declared.command.CommandKind.TheVariants as kind
 use Rattle.pt_read.specs.Elaboration.{Work}
 use Rattle.pt_read.specs.Scope.{Name, State, Symbol, Assertion, Use, Constant_of, Defined, constant_in, constants_in, with_symbol, popped, after}
 use Rattle.pt_read.specs.Lasting.{IsConstantUpTo, IsUseSound, AreInOrder, IsSound}
-use Rattle.pt_read.specs.Fits.{FitsKind, CanPop, IsConstant, IsMeaning, IsNewConstant, IsNewDefinition, IsNewAssertion, free_of}
+use Rattle.pt_read.specs.Fits.{FitsKind, IsConstant, IsMeaning, free_of}
 use Rattle.pt_read.specs.Reader.{with_work}
 use Rattle.pt_read.proofs.FreeSteps.{IsFront, front-length}
 use Rattle.pt_read.proofs.FreeNodes.{IsWhole}

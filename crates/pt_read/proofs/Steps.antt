@@ -1,5 +1,5 @@
 -- One turn of a loop over steps.
-use Rattle.std.proofs.Common.{◌≡◌, ◌⊎◌, inl, inr, ℕ, zero, suc, ◌+◌, ◌<◌, ◌≤◌, List, [], ◌∷◌, ◌++◌, map, take, drop, get_or, length, add-one, Option, Some, None, refl, ap, sym, subst, ◌∙◌, drop-cons, append_assoc, arith}
+use Rattle.std.proofs.Common.{◌≡◌, inl, inr, ℕ, zero, suc, ◌+◌, ◌<◌, ◌≤◌, List, [], ◌∷◌, ◌++◌, drop, get_or, length, add-one, Option, refl, ap, sym, subst, ◌∙◌, drop-cons, append_assoc, arith}
 use Rattle.std.specs.Prelude.{Result, Ok, Err, OnOk, Bool, true, false, not}
 use Rattle.std.specs.Result.{is_err}
 use Rattle.std.proofs.lemmas.List.{append-nil}
@@ -8,8 +8,8 @@ use Rattle.pt_syntax.specs.declared.kinds.ReadKind.{ReadKind}
 use Rattle.pt_syntax.specs.declared.kinds.ReadRefusal.{ReadRefusal}
 use Rattle.pt_read.specs.Elaboration.{Work, Elab, give, follow, ◌>>=◌, require, each}
 use Rattle.pt_read.specs.Gives.{Fails}
-use Rattle.pt_read.specs.Chains.{with_next, run, close}
-use Rattle.pt_read.proofs.Chaining.{conjunction_run, run_append}
+use Rattle.pt_read.specs.Chains.{run, close}
+use Rattle.pt_read.proofs.Chaining.{run_append}
 
 -- what is left begins with the item that is read
 pub drop-item : {X : Type 0} (xs : List X) (k : ℕ) (x : X) → k < length xs → x ≡ get_or xs k x → drop k xs ≡ x ∷ drop (k + 1) xs

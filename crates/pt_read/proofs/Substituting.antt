@@ -1,12 +1,12 @@
 -- Turns of the loops of applications.
-use Rattle.std.proofs.Common.{◌≡◌, ◌⊎◌, inl, inr, ℕ, zero, suc, ◌+◌, ◌<◌, ◌≤◌, List, [], ◌∷◌, map, drop, get_or, length, refl, ap, sym, subst, ◌∙◌, add-one, drop-cons, arith}
+use Rattle.std.proofs.Common.{◌≡◌, ℕ, ◌+◌, ◌<◌, List, ◌∷◌, drop, get_or, length, refl, ap, sym, subst, ◌∙◌, add-one, drop-cons}
 use Rattle.std.specs.Prelude.{Result, Ok, Err}
 use Rattle.pt_formula.specs.declared.node.Position.{Position}
 use Rattle.pt_formula.specs.declared.form.Form.{Form}
 use Rattle.pt_formula.specs.Forms.{Term}
 use Rattle.pt_formula.specs.Sums.{form_sum, form_scale}
 use Rattle.pt_syntax.specs.declared.kinds.ReadRefusal.{ReadRefusal}
-use Rattle.pt_read.specs.Elaboration.{Work, Elab, give, follow, ◌>>=◌, form}
+use Rattle.pt_read.specs.Elaboration.{Work, Elab, follow, ◌>>=◌, form}
 use Rattle.pt_read.specs.Terms.{replacing, substituted}
 use Rattle.pt_read.specs.Copies.{added}
 use Rattle.pt_read.specs.Gives.{Fails}

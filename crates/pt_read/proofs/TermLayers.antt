@@ -1,9 +1,8 @@
 -- Terms, a layer at a time.
-use Rattle.std.proofs.Common.{◌≡◌, ℕ, zero, suc, ◌<◌, ◌-◌, List, [], ◌∷◌, refl, ap, sym, ◌∙◌, arith}
+use Rattle.std.proofs.Common.{◌≡◌, ℕ, zero, suc, ◌<◌, ◌-◌, List, [], ◌∷◌, ap, arith}
 use Rattle.pt_formula.specs.declared.node.Position.{Position}
 use Rattle.pt_syntax.specs.declared.sexpr.Leaf.{Leaf}
 use Rattle.pt_syntax.specs.declared.sexpr.SExpr.{SExpr, out-SExpr}
-use Rattle.pt_syntax.specs.declared.sexpr.SExpr.TheOpen as layer
 use Rattle.pt_syntax.specs.declared.sexpr.SExpr.TheVariants as sexpr
 use Rattle.pt_syntax.specs.declared.kinds.ReadKind.TheVariants.{Syntax}
 use Rattle.pt_read.specs.Elaboration.{refuse}

@@ -1,5 +1,5 @@
 -- What is kept of the names that are bound in a term, and what contracts see of them.
-use Rattle.std.specs.Prelude.{ℕ, ◌<◌, ◌≤◌, ◌≡◌, ◌==◌, Bool, false, if◌then◌else◌, List, [], ◌∷◌, length, map, reverse, slice_get, unwrap_or, Option, Some, None, bytes_eq, ⊤}
+use Rattle.std.specs.Prelude.{ℕ, ◌<◌, ◌≤◌, ◌≡◌, ◌==◌, false, if◌then◌else◌, List, [], ◌∷◌, length, map, reverse, slice_get, unwrap_or, Option, Some, None, bytes_eq, ⊤}
 use Rattle.std.specs.List.{list_any, All}
 use Rattle.pt_read.specs.declared.command.Meaning.{Meaning}
 use Rattle.pt_read.specs.declared.bindings.Binding.{Binding}

@@ -1,11 +1,10 @@
 -- What a command is elaborated in, by what is kept of a scope: the live names, and the conjunction of the assertions, where there are any.
-use Rattle.std.specs.Prelude.{ℕ, ◌<◌, ◌≡◌, ◌==◌, ⊤, List, [], ◌∷◌, length, Option, Some, None, reverse, map}
+use Rattle.std.specs.Prelude.{ℕ, ◌<◌, ◌≡◌, ◌==◌, ⊤, List, [], ◌∷◌, length, Option, Some, None}
 use Rattle.std.specs.List.{AllByRecursion}
-use Rattle.pt_formula.specs.declared.node.Position.{Position}
 use Rattle.pt_syntax.specs.declared.sexpr.SExpr.{SExpr}
 use Rattle.pt_read.specs.declared.command.CommandKind.{CommandKind}
 use Rattle.pt_read.specs.declared.command.CommandKind.TheVariants as kind
-use Rattle.pt_read.specs.Elaboration.{Work, Elab, give, ◌>>=◌}
+use Rattle.pt_read.specs.Elaboration.{Work, Elab, ◌>>=◌}
 use Rattle.pt_read.specs.Scope.{Assertion, Symbol, State, conjunction}
 use Rattle.pt_read.specs.Sound.{IsUseIn, IsMeaningIn}
 use Rattle.pt_read.specs.Commands.{new_name, no_sorts, declared}

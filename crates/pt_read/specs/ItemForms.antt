@@ -1,5 +1,4 @@
 -- The forms of items and the table of commands that code knows, as those of the definitions.
-use Rattle.std.specs.Prelude.{map}
 use Rattle.pt_read.specs.Commands
 use Rattle.pt_read.specs.declared.item_forms.ItemForm.{ItemForm}
 use Rattle.pt_read.specs.declared.item_forms.ItemForm.TheVariants.{Symbol, Numeral, Integer, Sort, Term, Text, SortList, ParameterList, ItemList, Keyword, Value}

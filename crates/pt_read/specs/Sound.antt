@@ -1,5 +1,5 @@
 -- What elaboration keeps, refusals included: variables are given out before they stand in a node, and meanings are in range.
-use Rattle.std.specs.Prelude.{ℕ, ◌<◌, ◌≡◌, true, List, length, Option, Some, None}
+use Rattle.std.specs.Prelude.{ℕ, ◌<◌, ◌≡◌, true, List, length}
 use Rattle.std.specs.List.{AllByRecursion}
 use Rattle.pt_formula.specs.declared.node.Node.{Node}
 use Rattle.pt_formula.specs.declared.node.Node.TheVariants as node

@@ -3,7 +3,6 @@ use Rattle.std.specs.Prelude.{ℕ, ◌≤◌, List, [], ◌∷◌, map, ⊤}
 use Rattle.std.specs.List.{AllByRecursion}
 use Rattle.pt_read.specs.declared.symbols.Use as kept
 use Rattle.pt_read.specs.declared.symbols.Use.TheVariants.{Constant, Definition}
-use Rattle.pt_read.specs.declared.symbols.Live.{Live}
 use Rattle.pt_read.specs.declared.symbols.Symbols.TheInside.{Inside}
 use Rattle.pt_read.specs.Scope.{Symbol, Use, Constant_of, Defined}
 

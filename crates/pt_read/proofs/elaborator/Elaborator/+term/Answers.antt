@@ -1,9 +1,6 @@
-use Rattle.std.proofs.Common.{◌≡◌, map, List, [], ◌∷◌, ◌++◌, ap, sym, subst, ◌∙◌, arith, rules}
+use Rattle.std.proofs.Common.{◌≡◌, map, ap, sym, subst, ◌∙◌}
 use Rattle.std.specs.Prelude.{Ok, Some, option_map}
-use Rattle.std.specs.List.{AllByRecursion}
-use Rattle.pt_read.specs.Names.{Env, items_of}
-use Rattle.pt_read.specs.Scope.{Name}
-use Rattle.pt_read.specs.declared.command.Meaning.{Meaning}
+use Rattle.pt_read.specs.Names.{Env}
 use Rattle.pt_read.specs.Special.{argument, binding, term_within}
 use Rattle.pt_read.specs.Terms.{Argument}
 use Rattle.pt_read.specs.Gives.{Gives}

@@ -1,4 +1,4 @@
-use Rattle.std.proofs.Common.{◌+◌, ◌*◌, ◌≡◌, ◌<◌, ◌++◌, [], All, drop, map, length}
+use Rattle.std.proofs.Common.{◌+◌, ◌*◌, ◌≡◌, ◌++◌, [], All, drop}
 use Rattle.std.specs.List.{AllByRecursion}
 use Rattle.pt_read.specs.Scope.{Name}
 use Rattle.pt_read.specs.declared.command.Meaning.{Meaning}

@@ -1,5 +1,5 @@
 use Rattle.std.proofs.Common.{◌≡◌, ap, subst, sym, ◌∙◌}
-use Rattle.pt_read.specs.Names.{Env, bind}
+use Rattle.pt_read.specs.Names.{bind}
 use Rattle.pt_read.specs.Environment.{outermost}
 use Rattle.pt_read.specs.Special.{term, term_within}
 use Rattle.pt_read.specs.Gives.{Gives}

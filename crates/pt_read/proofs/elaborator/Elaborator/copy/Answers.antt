@@ -1,4 +1,4 @@
-use Rattle.std.proofs.Common.{◌≡◌, ◌+◌, Bool, List, map, zip, length, ap, sym, ◌∙◌}
+use Rattle.std.proofs.Common.{◌≡◌, map, zip, length, ap, sym, ◌∙◌}
 use Rattle.std.specs.Prelude.{Ok}
 use Rattle.pt_read.specs.Copies.{marks_of, new_number}
 use Rattle.pt_read.proofs.NodeCopies.{marks-length, copy-fails, copy-goes}

@@ -1,4 +1,4 @@
-use Rattle.std.proofs.Common.{◌∷◌, drop, subst, sym}
+use Rattle.std.proofs.Common.{subst, sym}
 use Rattle.pt_read.specs.Commands as commands
 use Rattle.pt_read.specs.Commands.{understood}
 use Rattle.pt_read.specs.Gives.{Gives}

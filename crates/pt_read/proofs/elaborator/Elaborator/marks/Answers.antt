@@ -1,8 +1,8 @@
-use Rattle.std.proofs.Common.{◌≡◌, ◌<◌, ◌≤◌, ◌-◌, ◌+◌, ap, sym, subst, ◌∙◌, refl, arith, length, get_or, true, false}
+use Rattle.std.proofs.Common.{◌≡◌, ◌<◌, ◌≤◌, ◌-◌, ◌+◌, ap, sym, subst, ◌∙◌, arith, length, get_or, true, false}
 use Rattle.std.specs.Prelude.{replicate}
 use Rattle.pt_formula.specs.Formulas.{IsFormula, children}
-use Rattle.pt_read.specs.Copies.{marked_all, marks_of}
-use Rattle.pt_read.proofs.Marks.{AreMarked, earlier_of, marked-first, marked-node, marked-skip, marked-end, same-default}
+use Rattle.pt_read.specs.Copies.{marked_all}
+use Rattle.pt_read.proofs.Marks.{earlier_of, marked-first, marked-node, marked-skip, marked-end, same-default}
 use Rattle.pt_read.proofs.elaborator.Elaborator.marks.Goals as goal
 use Rattle.pt_read.proofs.elaborator.Elaborator.marks.Goals.{then-index, else-index}
 

@@ -1,4 +1,3 @@
-use Rattle.std.proofs.Common.{◌≡◌, ◌≤◌, ◌+◌}
 use Rattle.pt_read.proofs.Marks.{AreMarked}
 use Rattle.pt_read.proofs.elaborator.Elaborator.marks.Given as goal
 

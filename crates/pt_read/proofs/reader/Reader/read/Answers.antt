@@ -1,4 +1,3 @@
-use Rattle.std.proofs.Common.{◌≡◌, ap, sym}
 use Rattle.pt_syntax.specs.Rest.{lists_left}
 use Rattle.pt_read.proofs.ReadingLaws.{nothing-read, command-read}
 use Rattle.pt_read.proofs.reader.Reader.read.Goals as goal

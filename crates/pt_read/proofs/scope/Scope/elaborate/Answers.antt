@@ -1,7 +1,6 @@
-use Rattle.std.proofs.Common.{◌≡◌, refl, sym, ap, subst, ◌∙◌, IfSome}
 use Rattle.pt_formula.specs.Formulas.{IsFormula}
 use Rattle.pt_read.specs.Kept.{shown}
-use Rattle.pt_read.specs.Standing.{joined, Stands}
+use Rattle.pt_read.specs.Standing.{Stands}
 use Rattle.pt_read.proofs.Elaborating.{whole-formula, scope-names, scope-joined, scope-stands, elaborated}
 use Rattle.pt_read.proofs.SoundLaws.{sound-grown}
 use Rattle.pt_read.proofs.scope.Scope.elaborate.Goals as goal
