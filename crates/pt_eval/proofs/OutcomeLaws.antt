@@ -23,8 +23,8 @@ use Rattle.pt_formula.specs.Costs.{IsPath, TreeCostWithin, track_of}
 use Rattle.pt_product.specs.Derived.{outside}
 use Rattle.pt_eval.specs.declared.outcome.Outcome.{Outcome}
 use Rattle.pt_eval.specs.declared.outcome.Outcome.TheVariants.{Pending, Known, Costly, LeftOut}
-use Rattle.pt_eval.specs.Evaluating.{IsCheap}
-use Rattle.pt_eval.specs.Outcomes.{HasFewResiduals, IsEvaluated, IsCheapBelow, HasCostlyBelow, IsOutcome, IsRefusal, RefusesWhere, known}
+use Rattle.pt_eval.specs.Evaluating.{IsCheap, HasFewResiduals}
+use Rattle.pt_eval.specs.Outcomes.{IsEvaluated, IsCheapBelow, HasCostlyBelow, IsOutcome, IsRefusal, RefusesWhere, known}
 use Rattle.pt_eval.proofs.CostLaws.{residuals-moved}
 use Rattle.pt_eval.proofs.QuantifierLaws.{TruthLaw, same-variables, unused-set, unused-within}
 use Rattle.pt_eval.proofs.NegationLaws.{negation-set, negation-residuals, handle-counted}

@@ -28,7 +28,7 @@ use Rattle.pt_formula.specs.Costs.{IsReached, IsCostly, IsRefused, NoneRefused}
 use Rattle.pt_eval.specs.declared.outcome.Outcome.{Outcome}
 use Rattle.pt_eval.specs.declared.outcome.Outcome.TheVariants.{Pending, Known, Costly, LeftOut}
 use Rattle.pt_eval.specs.Faults.{of_store}
-use Rattle.pt_eval.specs.Evaluating.{IsCheap, HaveSolutions, KnowsReached, RefusesRoots}
+use Rattle.pt_eval.specs.Evaluating.{IsCheap, HaveSolutions, KnowsReached, HaveFewResiduals, RefusesRoots}
 use Rattle.pt_eval.specs.Outcomes.{IsEvaluated, IsOutcome, IsSettled, IsResult, AreOutcomes, AreReady, AreResults, AreWritten, RefusesWhere, outcome_at, known, costly}
 use Rattle.pt_eval.specs.Levels.{row_of, row_items, total, IsPlanned, AreOrdered}
 use Rattle.pt_eval.proofs.CostLaws.{cost-excluded}
@@ -197,6 +197,9 @@ module _ (home : Home) (lists : Lists) (f : List (Node × Position)) (roots : Li
 
     pub none-refused : NoneRefused f roots bound
     none-refused d reached = let (h, is, at) = evaluated-at d reached in at.cheap d ([], refl)
+
+    pub few-residuals : HaveFewResiduals f roots bound
+    few-residuals i reached = let (h, is, at) = evaluated-at i reached in at.residuals
 
     pub knows-reached : KnowsReached home lists f roots
     knows-reached i reached = let (h, is, at) = evaluated-at i reached in (h, at.solutions)

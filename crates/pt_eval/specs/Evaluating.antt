@@ -1,5 +1,6 @@
 -- What an evaluation of a formula's nodes gives, and why it refuses.
 use Rattle.std.specs.Prelude.{◌≡◌, ℕ, List, length, slice_get, slice_index, Some}
+use Rattle.pt_sets.specs.Costs.{CostWithin, SameResidual}
 use Rattle.pt_sets.specs.Lists.{Lists, Home, list_of}
 use Rattle.pt_sets.specs.Known.{Lacks}
 use Rattle.pt_handles.specs.declared.handle.Handle.{Handle}
@@ -28,6 +29,14 @@ pub record HaveSolutions (home : Home) (lists : Lists) (f : List (Node × Positi
 -- the lists know a handle of the solutions of each node that the roots reach
 abbrev pub KnowsReached : Home → Lists → List (Node × Position) → List ℕ → Type 0
 KnowsReached home lists f roots = (i : ℕ) → IsReached f roots i → (h : Handle) × HasSolutions home lists f i h
+
+-- the solutions have at most as many residuals as the bound
+abbrev pub HasFewResiduals : List (Node × Position) → ℕ → ℕ → Type 0
+HasFewResiduals f bound i = CostWithin (SameResidual (length (variables_of f i)) (Solutions (tree_of f i))) (length (variables_of f i)) bound
+
+-- and so have those of each node that the roots reach
+abbrev pub HaveFewResiduals : List (Node × Position) → List ℕ → ℕ → Type 0
+HaveFewResiduals f roots bound = (i : ℕ) → IsReached f roots i → HasFewResiduals f bound i
 
 -- neither the lists nor any that extend them know a handle of the solutions of a node
 abbrev pub LacksSolutions : Home → ℕ → Lists → List (Node × Position) → ℕ → Type 0

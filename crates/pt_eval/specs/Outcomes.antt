@@ -2,7 +2,6 @@
 use Rattle.std.specs.Prelude.{◌≡◌, ◌⊎◌, ℕ, ◌<◌, List, length, slice_index, slice_index_or}
 use Rattle.pt_sets.specs.Elements.{ContainsByRecursion}
 use Rattle.pt_sets.specs.Lists.{Lists, Home}
-use Rattle.pt_sets.specs.Costs.{CostWithin, SameResidual}
 use Rattle.pt_store.specs.declared.fault.StoreFault.{StoreFault}
 use Rattle.pt_store.specs.declared.fault.StoreFault.TheVariants.{Full, NoMemory}
 use Rattle.pt_handles.specs.declared.handle.Handle.{Handle}
@@ -11,13 +10,9 @@ use Rattle.pt_formula.specs.declared.node.Position.{Position}
 use Rattle.pt_formula.specs.Truth.{Solutions}
 use Rattle.pt_formula.specs.Formulas.{node_at, children, tree_of, variables_of}
 use Rattle.pt_formula.specs.Costs.{IsBelow, IsCostly, TreeCostWithin}
-use Rattle.pt_eval.specs.Evaluating.{IsCheap, HasSolutions, LacksSolutions, IsFullAt}
+use Rattle.pt_eval.specs.Evaluating.{IsCheap, HasSolutions, HasFewResiduals, LacksSolutions, IsFullAt}
 use Rattle.pt_eval.specs.declared.outcome.Outcome.{Outcome}
 use Rattle.pt_eval.specs.declared.outcome.Outcome.TheVariants.{Pending, Known, Costly, LeftOut}
-
--- the solutions have at most as many residuals as the bound
-abbrev pub HasFewResiduals : List (Node × Position) → ℕ → ℕ → Type 0
-HasFewResiduals f bound i = CostWithin (SameResidual (length (variables_of f i)) (Solutions (tree_of f i))) (length (variables_of f i)) bound
 
 -- a cheap node with a known handle of its solutions
 pub record IsEvaluated (home : Home) (lists : Lists) (f : List (Node × Position)) (bound i : ℕ) (h : Handle) : Type 0 where

@@ -4,7 +4,7 @@ ghost use Rattle.std.specs.List.{AllByRecursion};
 ghost use Rattle.pt_sets.specs.Lists.{Extends};
 ghost use Rattle.pt_formula.specs.Costs.{NoneRefused};
 ghost use Rattle.pt_handles.specs.declared.handle.Handle.{Handle as HandleValue};
-ghost use Rattle.pt_eval.specs.Evaluating.{HaveSolutions, KnowsReached, RefusesRoots};
+ghost use Rattle.pt_eval.specs.Evaluating.{HaveSolutions, KnowsReached, HaveFewResiduals, RefusesRoots};
 ghost use Rattle.pt_eval.specs.Levels.{AreOrdered, IsPlanned};
 ghost use Rattle.pt_eval.specs.Outcomes.{AreOutcomes, AreWritten, IsSettled, RefusesWhere, costly, known, outcome_at};
 
@@ -56,6 +56,7 @@ pub fn evaluate<I: Interner, G: Gate, R: Threads>(
     ensures ok { IfOk result (λ handles. HaveSolutions I.Pass.home (I.Pass.lists pass.new) formula.now roots.now handles.items) }
     ensures reached { OnOk result (KnowsReached I.Pass.home (I.Pass.lists pass.new) formula.now roots.now) }
     ensures within { OnOk result (NoneRefused formula.now roots.now bound) }
+    ensures residuals { OnOk result (HaveFewResiduals formula.now roots.now bound) }
     ensures err { IfErr result (RefusesRoots formula.now roots.now bound I.Pass.home (I.limit_of store.now) (I.Pass.lists pass.new)) }
     ensures offers { I.Pass.offered pass.new ≤ I.Pass.offered pass.old + length formula.now * bound }
 {

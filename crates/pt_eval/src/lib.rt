@@ -17,6 +17,7 @@ pub use evaluation::evaluate;
 pub use fault::EvalFault;
 pub use gate::{Gate, Open};
 pub use laws::refusals_are_exact;
+pub use tracks::track_map;
 
 #[cfg(test)]
 mod tests;

@@ -4,7 +4,8 @@ ghost use Rattle.pt_formula.specs.Costs.{track_of};
 ghost use Rattle.pt_eval.specs.Parts.{tracks_of};
 
 use pt_formula::Var;
-use std::alloc::{AllocError, Global};
+use pt_tables::NoMemory;
+use std::alloc::Global;
 
 /// The track of a variable: its place among the variables; their number where it is none of them.
 pub(crate) fn track(v: Var, variables: &[Var]) -> usize
@@ -19,8 +20,9 @@ pub(crate) fn track(v: Var, variables: &[Var]) -> usize
     variables.len()
 }
 
-/// The track of each of some variables.
-pub(crate) fn track_map(alloc: Global, inner: &[Var], outer: &[Var]) -> Result<Vec<u8>, AllocError>
+/// The track of each of some variables among at most ten others: by this map `widen` takes a set over the former to one
+/// over the latter. In time of the product of their numbers.
+pub fn track_map(alloc: Global, inner: &[Var], outer: &[Var]) -> Result<Vec<u8>, NoMemory>
     requires { length outer.now ≤ 10 }
     ensures { IfOk result (λ map. map.items ≡ tracks_of inner.now outer.now) }
 {

@@ -80,13 +80,20 @@ scope-names s h = record { bound = tt; live = uses s.symbols h.symbols }
     uses [] k = tt
     uses (x ∷ xs) k = (use-in s x.level x.stands_for h k.0.1, uses xs k.1)
 
-pub scope-joined : (s : State) → IsSound s → IfSome (joined s.assertions) (λ c. c < length s.formula)
-scope-joined s h = by-assertions s.assertions (ranges s.assertions h.assertions)
-  where
-    ranges : (made : List Assertion) → AllByRecursion (λ (a : Assertion). (a.level ≤ s.depth) × (a.term < length s.formula) × (a.conjunction < length s.formula)) made → AllByRecursion (λ (a : Assertion). a.conjunction < length s.formula) made
-    ranges [] k = tt
-    ranges (a ∷ made) k = (k.0.2, ranges made k.1)
+conjunctions-range : (s : State) (made : List Assertion) → AllByRecursion (λ (a : Assertion). (a.level ≤ s.depth) × (a.term < length s.formula) × (a.conjunction < length s.formula)) made → AllByRecursion (λ (a : Assertion). a.conjunction < length s.formula) made
+conjunctions-range s [] k = tt
+conjunctions-range s (a ∷ made) k = (k.0.2, conjunctions-range s made k.1)
 
+pub scope-conjunction : (s : State) → IsSound s → IsFormula s.formula → conjunction s < length s.formula
+scope-conjunction s h f = joined-range (length s.formula) 0 s.assertions (first s.formula f.first) (conjunctions-range s s.assertions h.assertions)
+  where
+    first : (f : List (Node × Position)) → slice_get f 0 ≡ slice_get start_formula 0 → 0 < length f
+    first [] e = absurd cc
+    first (n ∷ f) e = omega arith
+
+pub scope-joined : (s : State) → IsSound s → IfSome (joined s.assertions) (λ c. c < length s.formula)
+scope-joined s h = by-assertions s.assertions (conjunctions-range s s.assertions h.assertions)
+  where
     by-assertions : (made : List Assertion) → AllByRecursion (λ (a : Assertion). a.conjunction < length s.formula) made → IfSome (joined made) (λ c. c < length s.formula)
     by-assertions [] k = tt
     by-assertions (a ∷ made) k = joined-range (length s.formula) a.conjunction made k.0 k.1

@@ -61,7 +61,7 @@ fn assertions_up_to(assertions: &[Assertion], level: u128) -> usize
 
 /// The readers take constant time.
 impl Scope {
-    ghost use Rattle.std.specs.Prelude.{◌<◌, ◌≤◌, ◌^◌, IfOk, OnOk, OnErr};
+    ghost use Rattle.std.specs.Prelude.{◌<◌, ◌≤◌, ◌^◌, length, IfOk, OnOk, OnErr};
     ghost use Rattle.pt_read.specs.Scope.{initial, after, conjunction, constants_in, is_live};
     ghost use Rattle.pt_read.specs.Fits.{FitsKind, CanPop, IsNewConstant, IsNewDefinition, IsNewAssertion};
     ghost use Rattle.pt_read.specs.declared.command.CommandKind.TheVariants as kind;
@@ -112,8 +112,10 @@ impl Scope {
 
     /// The conjunction of the live assertions, node 0 where there is none.
     pub fn conjunction(&self) -> NodeId
-        ensures { result ≡ conjunction self.now }
+        ensures value { result ≡ conjunction self.now }
+        ensures node { result < length self.now.formula }
     {
+        let _formula = self.work.formula().len();
         match self.assertions.last() {
             Some(last) => last.conjunction,
             None => 0,

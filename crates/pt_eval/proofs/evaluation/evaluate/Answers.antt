@@ -11,7 +11,7 @@ use Rattle.pt_eval.specs.Levels.{IsPlan, IsPlanned}
 use Rattle.pt_eval.specs.Outcomes.{IsSettled, outcome_at, known, costly}
 use Rattle.pt_eval.proofs.MarkLaws.{root-reached}
 use Rattle.pt_eval.proofs.LevelLaws.{plan-ordered, planned-reached, reached-planned}
-use Rattle.pt_eval.proofs.RunLaws.{where-moved, roots-refuse, refused-at, evaluated-at, none-refused, knows-reached, have-solutions, all-roots}
+use Rattle.pt_eval.proofs.RunLaws.{where-moved, roots-refuse, refused-at, evaluated-at, none-refused, few-residuals, knows-reached, have-solutions, all-roots}
 use Rattle.pt_eval.proofs.evaluation.evaluate.Goals as goal
 
 pub evaluate_rows-requires-clause-ordered : goal.evaluate_rows-requires-clause-ordered
@@ -113,3 +113,16 @@ returns-in-Ok-handles_of-clause-within g c =
     let settled : (i : ℕ) → IsReached c.args.formula.now c.args.roots.now i → IsSettled (outcome_at c.in-Ok-evaluate_rows.outcomes.items i) = λ i reached. (c.in-Ok-evaluate_rows.ensures.settled i).1 (reached-planned f roots c.deref.result.now plan i reached) in
     let none : (j : ℕ) → outcome_at c.in-Ok-evaluate_rows.outcomes.items j ≢ costly = subst (λ (ps : List Outcome). (j : ℕ) → outcome_at ps j ≢ costly) c.deref-2.ensures.value c.in_default.ensures.none in
     none-refused home new f roots c.args.bound os are settled none
+
+pub returns-in-Ok-handles_of-clause-residuals : goal.returns-in-Ok-handles_of-clause-residuals
+returns-in-Ok-handles_of-clause-residuals g c =
+    let f = c.args.formula.now in
+    let roots = c.args.roots.now in
+    let home = g.I.Pass.Codes.home in
+    let new = g.I.Pass.Codes.lists c.evaluate_rows.new.pass in
+    let os = c.in-Ok-evaluate_rows.outcomes.items in
+    let plan : IsPlan c.args.formula.now c.args.roots.now c.deref.result.now = subst (λ (rows : List (Vec ℕ)). IsPlan c.args.formula.now c.args.roots.now rows) (sym c.deref.ensures.value) c.in-Ok.ensures in
+    let are = c.in-Ok-evaluate_rows.ensures.outcomes in
+    let settled : (i : ℕ) → IsReached c.args.formula.now c.args.roots.now i → IsSettled (outcome_at c.in-Ok-evaluate_rows.outcomes.items i) = λ i reached. (c.in-Ok-evaluate_rows.ensures.settled i).1 (reached-planned f roots c.deref.result.now plan i reached) in
+    let none : (j : ℕ) → outcome_at c.in-Ok-evaluate_rows.outcomes.items j ≢ costly = subst (λ (ps : List Outcome). (j : ℕ) → outcome_at ps j ≢ costly) c.deref-2.ensures.value c.in_default.ensures.none in
+    few-residuals home new f roots c.args.bound os are settled none
