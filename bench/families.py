@@ -187,14 +187,14 @@ def drill(depth):
 
 
 FAMILIES = {
-    coins2: (5, 10, 20, 40, 80),
-    coins3: (5, 10, 20, 40),
+    coins2: (10, 20, 40, 80, 160),
+    coins3: (5, 10, 20, 40, 80),
     alternation: (1, 2, 4, 8, 16),
-    counters: (2, 4, 8, 16),
-    chain: (2, 3, 4, 5),
-    covers: (2, 4, 6, 8),
-    knapsack: (2, 3, 4, 5, 6),
-    bounded: (4, 6, 8, 10, 12),
-    equal: (5, 10, 20, 40, 80),
-    drill: (1, 2, 3, 4),
+    counters: (4, 8, 16, 32),
+    chain: (2, 3, 4, 5, 6),
+    covers: (2, 4, 6, 8, 10),
+    knapsack: (2, 4, 6, 8),
+    bounded: (6, 8, 10, 12, 14, 16),
+    equal: (10, 20, 40, 80, 160),
+    drill: (1, 2, 3, 4, 5),
 }

@@ -75,7 +75,7 @@ def first_line(*command):
 
 def solvers(program, states):
     every = [
-        Solver("prestaf", [program, f"--states={states}"], lambda: f"this repository, state bound {states}",
+        Solver("prestaf", [program, f"--states={states}"], lambda: f"{program}, state bound {states}",
                lambda i: i.own or i.script, own_answer),
         Solver("z3", ["z3", "-in"], lambda: first_line("z3", "--version"), for_z3, smt_answer),
         Solver("cvc5", ["cvc5", "--lang=smt2", "-q"], lambda: first_line("cvc5", "--version"), lambda i: i.script, smt_answer),

@@ -3,6 +3,7 @@ import math
 import statistics
 
 HEAD = ("family", "known by", "solver", "answered", "wrong", "not answered", "median s", "peak MB", "slowest by size, s", "growth")
+TELLING = 0.1  # seconds below which a time is that of starting a process
 
 
 def is_wrong(result):
@@ -27,7 +28,7 @@ def growth(points):
     if len(whole) < 2:
         return ""
     (size, seconds), (last, later) = whole[0], whole[-1]
-    return f"n^{math.log(later / seconds) / math.log(last / size):.1f}"
+    return f"n^{math.log(later / seconds) / math.log(last / size):.1f}" if later > TELLING else "none seen"
 
 
 def cell(size, seconds, is_whole):
