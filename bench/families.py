@@ -1,9 +1,10 @@
-"""Families of questions with a size. Each gives for a size some instances of one SMT-LIB script for all solvers.
+"""Families of questions with a size. Each gives for a size some instances: one SMT-LIB script for all solvers.
 
-Where an answer is known by construction it stands in `expected`; else it is None. `own` is a script for prestaf in place
-of the common one; its reply `true` means unsat, `false` sat. `mona` is the same question over natural numbers.
+Where an answer is known by construction it stands in `expected`; else it is None. `own` is a script for prestaf in
+place of the common one; its reply `true` means unsat, `false` sat. `mona` is the same question over natural numbers.
 """
 import random
+import sys
 from dataclasses import dataclass
 from typing import Optional
 
@@ -155,7 +156,7 @@ def bounded(bits):
 
 
 def equal(n):
-    """Coins n and n + 1 pay just what lies between k times n and k times n + 1, for k from 0 on; from 1 on it differs."""
+    """Coins n and n + 1 pay just what lies between kn and k(n + 1) for a k from 0 on; from 1 on it is another set."""
     for least, expected in ((0, "unsat"), (1, "sat")):
         between = f"(exists ((k Int)) (and (>= k {least}) (<= (* {n} k) x) (<= x (* {n + 1} k))))"
         own = text(f"(define-fun p ((x Int)) Bool {payable('x', (n, n + 1))})",
@@ -198,3 +199,7 @@ FAMILIES = {
     equal: (10, 20, 40, 80, 160),
     drill: (1, 2, 3, 4, 5),
 }
+
+if __name__ == "__main__":  # families.py FAMILY SIZE INSTANCE: the script of one question
+    name, size, instance = sys.argv[1:]
+    print(list(next(f for f in FAMILIES if f.__name__ == name)(int(size)))[int(instance)].script, end="")

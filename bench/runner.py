@@ -78,8 +78,10 @@ def solvers(program, states):
         Solver("prestaf", [program, f"--states={states}"], lambda: f"{program}, state bound {states}",
                lambda i: i.own or i.script, own_answer),
         Solver("z3", ["z3", "-in"], lambda: first_line("z3", "--version"), for_z3, smt_answer),
-        Solver("cvc5", ["cvc5", "--lang=smt2", "-q"], lambda: first_line("cvc5", "--version"), lambda i: i.script, smt_answer),
-        Solver("mona", ["mona", "-q", "/dev/stdin"], lambda: first_line("mona", "--help"), lambda i: i.mona, mona_answer),
+        Solver("cvc5", ["cvc5", "--lang=smt2", "-q"], lambda: first_line("cvc5", "--version"),
+               lambda i: i.script, smt_answer),
+        Solver("mona", ["mona", "-q", "/dev/stdin"], lambda: first_line("mona", "--help"),
+               lambda i: i.mona, mona_answer),
     ]
     for solver in every:
         if shutil.which(solver.command[0]):
@@ -133,7 +135,8 @@ def run_family(family, sizes, chosen, limit):
                 else:
                     answer, seconds, megabytes = ask(solver, text, limit)
                 answers.append(answer)
-                yield Result(solver.name, family.__name__, size, index, answer, instance.expected or "", seconds, megabytes)
+                known = instance.expected or ""
+                yield Result(solver.name, family.__name__, size, index, answer, known, seconds, megabytes)
             if answers and all(answer in ("late", "not asked") for answer in answers):
                 slow.add(solver.name)
 

@@ -2,7 +2,8 @@
 import math
 import statistics
 
-HEAD = ("family", "known by", "solver", "answered", "wrong", "not answered", "median s", "peak MB", "slowest by size, s", "growth")
+HEAD = ("family", "known by", "solver", "answered", "wrong", "not answered", "median s", "peak MB",
+        "slowest by size, s", "growth")
 TELLING = 0.1  # seconds below which a time is that of starting a process
 
 
@@ -45,7 +46,7 @@ def line(family, solver, results, floor):
     peak = max((r.megabytes for r in answered), default=0)
     points = list(by_size(results))
     return (family,
-            "construction" if not any(r.expected.startswith("peers:") or not r.expected for r in results) else "most peers",
+            "construction" if all(r.expected in ("sat", "unsat") for r in results) else "most peers",
             solver,
             f"{len(answered)}/{len(results)}",
             str(sum(map(is_wrong, results))),
@@ -67,4 +68,5 @@ def write(results, floor):
     for row in rows:
         print("  ".join(cell.ljust(width) for cell, width in zip(row, widths)).rstrip())
     for r in filter(is_wrong, results):
-        print(f"WRONG: {r.solver} answers {r.answer} to {r.family} {r.size}, instance {r.instance}; known is {r.expected}")
+        print(f"WRONG: {r.solver} answers {r.answer} to {r.family} {r.size}, instance {r.instance}; "
+              f"known is {r.expected}")
