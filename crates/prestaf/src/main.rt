@@ -1,24 +1,35 @@
 //! The program: standard input to standard output, by `pt_main::run`.
 #![tactic(auto)]
 
-use pt_io::{RealSink, RealSource};
+use pt_eval::Open;
+use pt_io::{RealSink, RealSource, Sink, Source};
 use pt_main::{Status, run};
+use pt_store::{LocalStore, Mixed};
+use std::alloc::Global;
 use std::env;
 use std::io::ErrorKind;
 use std::process::ExitCode;
+use std::thread::Threads;
 
 const USAGE: &str =
     "usage: prestaf [--mode=solve|drill] [--workers=N] [--states=B] [--seed=N] [--size=K]";
 
-/// What is written to standard error for a status.
-fn message(status: Status) -> Option<&'static str> {
-    match status {
-        Status::Done | Status::Refused => None,
-        Status::Usage => Some(USAGE),
-        Status::ReadFault => Some("prestaf: cannot read the script"),
-        Status::WriteFault => Some("prestaf: cannot write"),
-        Status::NoMemory => Some("prestaf: out of memory"),
-    }
+/// How many shards the store has.
+const SHARDS: u32 = 16;
+
+/// How many codes a shard may have.
+const MAX_CODES: u32 = 268_434_432;
+
+/// Writes a line on a run that gave no answer to standard error.
+fn report(rt: &HostRuntime, status: Status) {
+    let _ = match status {
+        Status::Done | Status::Refused => Ok(()),
+        Status::Usage => eprintln!(rt; "{USAGE}"),
+        Status::ReadFault => eprintln!(rt; "prestaf: cannot read the script"),
+        Status::WriteFault => eprintln!(rt; "prestaf: cannot write"),
+        Status::NoMemory => eprintln!(rt; "prestaf: out of memory"),
+        Status::StoreFull { shard } => eprintln!(rt; "prestaf: store shard {shard} is full"),
+    };
 }
 
 /// The words behind the program's name. Where they cannot be read, the run ends as for the status.
@@ -33,21 +44,29 @@ fn words(rt: &HostRuntime) -> Result<Vec<String>, Status> {
     }
 }
 
-fn status(rt: &HostRuntime) -> Status {
-    match words(rt) {
-        Err(status) => status,
-        Ok(words) => {
-            let mut source = RealSource::new(rt.stdin());
-            let mut sink = RealSink::new(rt.stdout());
-            run(rt.alloc(), words.as_slice(), &mut source, &mut sink)
-        }
+/// Answers the script of the source over a store of its own.
+fn answer<S: Source, K: Sink, R: Threads>(
+    rt: &R,
+    alloc: Global,
+    words: &[String],
+    source: &mut S,
+    sink: &mut K,
+) -> Status {
+    match LocalStore::new(alloc, SHARDS, MAX_CODES, Mixed) {
+        Ok((store, mut pass)) => run(
+            rt, alloc, words, source, sink, &Open, &store, &mut pass,
+        ),
+        Err(_) => Status::NoMemory,
     }
 }
 
 fn main(rt: HostRuntime) -> ExitCode {
-    let status = status(&rt);
-    if let Some(text) = message(status) {
-        let _ = rt.eprintln(text);
-    }
+    let mut source = RealSource::new(rt.stdin());
+    let mut sink = RealSink::new(rt.stdout());
+    let status = match words(&rt) {
+        Ok(words) => answer(&rt, rt.alloc(), words.as_slice(), &mut source, &mut sink),
+        Err(status) => status,
+    };
+    report(&rt, status);
     ExitCode::from(status.exit_number())
 }

@@ -1,8 +1,8 @@
-pub mod TokenLemmas
-pub mod Spelled
-pub mod SpelledScripts
+pub mod Numbers
 pub mod WholeText
-pub mod Digits
-pub mod Sums
-pub mod Solving
-pub mod Deciding
+pub mod Streaming
+pub mod Stepping
+pub mod Underway
+pub mod Endings
+pub mod Growing
+pub mod Whole

@@ -1,44 +1,260 @@
-use sqlite_items::Items;
+// The run of a script.
+ghost use Rattle.std.specs.Prelude.{◌≡◌, ◌<◌, ◌≤◌, ◌+◌, ◌*◌, ◌^◌, ◌↔◌, ◌⊎◌, map, length, string_bytes, IfSome};
+ghost use Rattle.pt_io.specs.Streams.{Rose};
+ghost use Rattle.pt_sets.specs.Lists.{Extends, list_of};
+ghost use Rattle.pt_read.specs.Fits.{FitsKind};
+ghost use Rattle.pt_script.specs.Asks.{CommandAsks, KnowsAsked, LacksAsked};
+ghost use Rattle.pt_script.specs.Texts.{refusal_line, fault_line, too_long};
+ghost use Rattle.pt_main.specs.Options.{AreOptions};
+ghost use Rattle.pt_main.specs.Ending.{OfScript, IfWhole, IfFull, IsEnded, HasRoom, Answers, HasRead};
+ghost use Rattle.pt_main.specs.Wanted.{LackAsked, KnowAnswered, OffersWithin};
+ghost use Rattle.pt_main.specs.Parts.{EndsWithLine, EndsWithReply, CommandTold, IfAnswered, IfStops, IsOfText, EndsWithoutLine, HasReadLine};
 
-/// A numeral, or a minus and a numeral, by its digits.
-#[derive(Drop)]
-pub struct Number {
-    pub negative: bool,
-    pub digits: Items<u8>,
+use crate::options::state_bound;
+use crate::status::Status;
+use pt_eval::Gate;
+use pt_handles::longer_lists_know;
+use pt_io::{ReadFault, Sink, Source, read_all, write_all};
+use pt_read::{Command, ReadKind, ReadRefusal, Reader};
+use pt_script::{Reply, Session, SessionFault, write_fault, write_refusal, write_too_long};
+use pt_store::{Codes, Interner};
+use std::alloc::Global;
+use std::thread::Threads;
+
+/// The most bytes that a script may have.
+const LIMIT: usize = 4_194_304;
+
+/// Answers the script that the source gives, in order, with the state bound of the words. Each reply is written before the
+/// next command is read; the run ends at the end of the text, at `exit`, or at the first refusal, whose error line is the
+/// last line. The words are none, or `--states=B` with B from 1 to 65,536; the bound is 16,384 by default.
+///
+/// All work is done on the caller's thread. Besides the work of the commands the time is linear in the bytes.
+///
+/// Where the words are such, neither stream fails and no list of the pass comes to the store's limit, the answer is `Done`
+/// or `Refused`, or want of memory.
+pub fn run<S: Source, K: Sink, G: Gate, I: Interner, R: Threads>(
+    rt: &R,
+    alloc: Global,
+    words: &[String],
+    source: &mut S,
+    sink: &mut K,
+    gate: &G,
+    store: &I,
+    pass: &mut I::Pass,
+) -> Status
+    requires { I.owns store.now pass.old }
+    ensures usage { (result ≡ Status.Usage) ↔ (¬ AreOptions (map string_bytes words.now)) }
+    ensures untouched { result ≡ Status.Usage → (source.new ≡ source.old) × (sink.new ≡ sink.old) × (pass.new ≡ pass.old) }
+    ensures read_fault { result ≡ Status.ReadFault → Rose (S.faults source.old) (S.faults source.new) }
+    ensures unwritten { result ≡ Status.ReadFault → (sink.new ≡ sink.old) × (pass.new ≡ pass.old) }
+    ensures write_fault { result ≡ Status.WriteFault → Rose (K.faults sink.old) (K.faults sink.new) }
+    ensures store_full { IfFull result (λ shard. length (list_of (I.Pass.lists pass.new) shard) ≡ I.limit_of store.now) }
+    ensures lack { IfFull result (λ _. OfScript (S.left source.old) (map string_bytes words.now) (LackAsked I.Pass.home (I.limit_of store.now) (I.Pass.lists pass.new))) }
+    ensures answer { OfScript (S.left source.old) (map string_bytes words.now) (λ text bound. Answers text bound (K.written sink.old) (K.written sink.new) result) }
+    ensures read { IfSome (S.left source.old) (λ text. HasRead text (S.left source.new) result) }
+    ensures known { IfWhole result (OfScript (S.left source.old) (map string_bytes words.now) (KnowAnswered I.Pass.home (I.Pass.lists pass.new))) }
+    ensures offers { OfScript (S.left source.old) (map string_bytes words.now) (λ text bound. OffersWithin text bound (I.Pass.offered pass.old) (I.Pass.offered pass.new)) }
+    ensures complete { AreOptions (map string_bytes words.now) → ¬ Rose (S.faults source.old) (S.faults source.new) → ¬ Rose (K.faults sink.old) (K.faults sink.new) → HasRoom (I.limit_of store.now) (I.Pass.lists pass.new) → (result ≡ Status.NoMemory) ⊎ IsEnded result }
+    ensures counted { (S.faults source.old ≤ S.faults source.new) × (K.faults sink.old ≤ K.faults sink.new) }
+    ensures extends { Extends (I.Pass.lists pass.old) (I.Pass.lists pass.new) }
+    ensures kept { I.owns store.now pass.new }
+{
+    let Some(bound) = state_bound(words) else {
+        return Status::Usage;
+    };
+    match read_all(alloc, source, LIMIT) {
+        Ok(text) => answer(rt, alloc, text.as_slice(), bound, sink, gate, store, pass),
+        Err(ReadFault::TooLong { limit: _ }) => refuse_text(alloc, sink),
+        Err(ReadFault::Failed) => Status::ReadFault,
+        Err(ReadFault::NoMemory) => Status::NoMemory,
+    }
 }
 
-/// A coefficient times a declared name.
-#[derive(Drop)]
-pub struct Product {
-    pub coefficient: Number,
-    pub name: Items<u8>,
+/// How many threads work on a command.
+const WORKERS: u32 = 1;
+
+/// The most variable numbers that a command is read with. A text of the greatest length gives fewer.
+const MAX_VARIABLES: u32 = 1 << 31;
+
+/// The number of levels below which a push is answered. A text of the greatest length pushes fewer.
+const MAX_DEPTH: u128 = 1 << 127;
+
+/// Answers the commands of a text that is not too long.
+fn answer<K: Sink, G: Gate, I: Interner, R: Threads>(
+    rt: &R,
+    alloc: Global,
+    text: &[u8],
+    bound: u32,
+    sink: &mut K,
+    gate: &G,
+    store: &I,
+    pass: &mut I::Pass,
+) -> Status
+    requires size { length text.now ≤ 4194304 }
+    requires some { 0 < bound }
+    requires few { bound ≤ 65536 }
+    requires owned { I.owns store.now pass.old }
+    ensures of_text { IsOfText result }
+    ensures write_fault { result ≡ Status.WriteFault → Rose (K.faults sink.old) (K.faults sink.new) }
+    ensures store_full { IfFull result (λ shard. length (list_of (I.Pass.lists pass.new) shard) ≡ I.limit_of store.now) }
+    ensures lack { IfFull result (λ _. LackAsked I.Pass.home (I.limit_of store.now) (I.Pass.lists pass.new) text.now bound) }
+    ensures answer { Answers text.now bound (K.written sink.old) (K.written sink.new) result }
+    ensures known { IfWhole result (KnowAnswered I.Pass.home (I.Pass.lists pass.new) text.now bound) }
+    ensures offers { OffersWithin text.now bound (I.Pass.offered pass.old) (I.Pass.offered pass.new) }
+    ensures counted { K.faults sink.old ≤ K.faults sink.new }
+    ensures extends { Extends (I.Pass.lists pass.old) (I.Pass.lists pass.new) }
+    ensures kept { I.owns store.now pass.new }
+{
+    let Ok(mut session) = Session::new(alloc) else {
+        return Status::NoMemory;
+    };
+    let mut reader = Reader::new(text);
+    longer_lists_know();
+    'commands: loop {
+        if session.scope().given() > MAX_VARIABLES || session.scope().depth() >= MAX_DEPTH {
+            return Status::NoMemory;
+        }
+        match session.read_command(alloc, &mut reader) {
+            Ok(None) => return Status::Done,
+            Ok(Some(command)) => {
+                let told = answer_command(
+                    rt,
+                    alloc,
+                    &mut session,
+                    command,
+                    bound,
+                    sink,
+                    gate,
+                    store,
+                    pass,
+                );
+                match told {
+                    Some(status) => return status,
+                    None => {}
+                }
+            }
+            Err(refusal) => return refuse_reading(alloc, sink, refusal),
+        }
+    }
 }
 
-/// A product alone, or `(+ ..)` of some.
-#[derive(Drop)]
-pub enum Sum {
-    One(Product),
-    Plus(Items<Product>),
+/// Answers a command, and writes its reply or the line of its refusal. The run goes on, or it ends as the status says.
+fn answer_command<K: Sink, G: Gate, I: Interner, R: Threads>(
+    rt: &R,
+    alloc: Global,
+    session: &mut Session,
+    command: Command,
+    bound: u32,
+    sink: &mut K,
+    gate: &G,
+    store: &I,
+    pass: &mut I::Pass,
+) -> Option<Status>
+    requires fits { FitsKind command.kind session.old.scope }
+    requires going { session.old.fault ≡ None }
+    requires depth { session.old.scope.depth < 2 ^ 127 }
+    requires some { 0 < bound }
+    requires few { bound ≤ 65536 }
+    requires owned { I.owns store.now pass.old }
+    ensures told { CommandTold session.old command bound session.new (K.written sink.old) (K.written sink.new) result }
+    ensures asked { IfAnswered result (KnowsAsked I.Pass.home (I.Pass.lists pass.new) session.old.scope command.kind bound) }
+    ensures write_fault { result ≡ Some Status.WriteFault → Rose (K.faults sink.old) (K.faults sink.new) }
+    ensures store_full { IfStops result (λ shard. length (list_of (I.Pass.lists pass.new) shard) ≡ I.limit_of store.now) }
+    ensures lack { IfStops result (λ _. LacksAsked I.Pass.home (I.limit_of store.now) (I.Pass.lists pass.new) (CommandAsks session.old.scope command.kind bound)) }
+    ensures offers { I.Pass.offered pass.new ≤ I.Pass.offered pass.old + (length session.old.scope.formula + 2) * bound }
+    ensures counted { K.faults sink.old ≤ K.faults sink.new }
+    ensures extends { Extends (I.Pass.lists pass.old) (I.Pass.lists pass.new) }
+    ensures kept { I.owns store.now pass.new }
+{
+    match session.execute(rt, alloc, command, store, pass, bound, WORKERS, gate) {
+        Ok(reply) => write_reply(sink, reply),
+        Err(fault) => match end_of(fault) {
+            Some(status) => Some(status),
+            None => Some(refuse_command(alloc, sink, bound, fault)),
+        },
+    }
 }
 
-#[derive(Clone, Copy, Drop)]
-pub enum Relation {
-    Equal,
-    AtMost,
+/// How a run ends with a fault that has no line.
+fn end_of(fault: SessionFault) -> Option<Status>
+    ensures { EndsWithoutLine fault result }
+{
+    match fault {
+        SessionFault::Full { shard, count: _ } => Some(Status::StoreFull { shard }),
+        SessionFault::NoMemory => Some(Status::NoMemory),
+        SessionFault::States { .. } => None,
+        SessionFault::NoModel { .. } => None,
+        SessionFault::WideValue { .. } => None,
+        SessionFault::PopTooFar { .. } => None,
+    }
 }
 
-/// That a sum equals the bound, or is at most the bound.
-#[derive(Drop)]
-pub struct Assertion {
-    pub relation: Relation,
-    pub sum: Sum,
-    pub bound: Number,
+/// Writes a reply. The run goes on, or it ends as the status says.
+fn write_reply<K: Sink>(sink: &mut K, reply: Reply) -> Option<Status>
+    ensures told { EndsWithReply reply.bytes reply.ends (K.written sink.old) (K.written sink.new) result }
+    ensures write_fault { result ≡ Some Status.WriteFault → Rose (K.faults sink.old) (K.faults sink.new) }
+    ensures counted { K.faults sink.old ≤ K.faults sink.new }
+{
+    if write_all(sink, reply.bytes()).is_err() {
+        return Some(Status::WriteFault);
+    }
+    if reply.ends() {
+        return Some(Status::Done);
+    }
+    None
 }
 
-/// A script of the small form: declarations, at most one assertion, at most one `(check-sat)`.
-#[derive(Drop)]
-pub struct Script {
-    pub names: Items<Items<u8>>,
-    pub assertion: Option<Assertion>,
-    pub check_sat: bool,
+/// Writes the last line of a run.
+fn end_with<K: Sink>(sink: &mut K, line: &[u8]) -> Status
+    ensures told { EndsWithLine line.now (K.written sink.old) (K.written sink.new) result }
+    ensures write_fault { result ≡ Status.WriteFault → Rose (K.faults sink.old) (K.faults sink.new) }
+    ensures counted { K.faults sink.old ≤ K.faults sink.new }
+{
+    match write_all(sink, line) {
+        Ok(()) => Status::Refused,
+        Err(_) => Status::WriteFault,
+    }
+}
+
+/// Ends the run of a text that is too long.
+fn refuse_text<K: Sink>(alloc: Global, sink: &mut K) -> Status
+    ensures told { EndsWithLine too_long (K.written sink.old) (K.written sink.new) result }
+    ensures write_fault { result ≡ Status.WriteFault → Rose (K.faults sink.old) (K.faults sink.new) }
+    ensures counted { K.faults sink.old ≤ K.faults sink.new }
+{
+    let mut line = Vec::new(alloc);
+    match write_too_long(alloc, &mut line) {
+        Ok(()) => end_with(sink, line.as_slice()),
+        Err(_) => Status::NoMemory,
+    }
+}
+
+/// Ends the run with the refusal of a command that cannot be read.
+fn refuse_reading<K: Sink>(alloc: Global, sink: &mut K, refusal: ReadRefusal) -> Status
+    ensures told { EndsWithLine (refusal_line refusal) (K.written sink.old) (K.written sink.new) result }
+    ensures line { (result ≡ Status.NoMemory) ⊎ HasReadLine refusal.kind }
+    ensures write_fault { result ≡ Status.WriteFault → Rose (K.faults sink.old) (K.faults sink.new) }
+    ensures counted { K.faults sink.old ≤ K.faults sink.new }
+{
+    if let ReadKind::NoMemory = refusal.kind {
+        return Status::NoMemory;
+    }
+    let mut line = Vec::new(alloc);
+    match write_refusal(alloc, &mut line, refusal) {
+        Ok(()) => end_with(sink, line.as_slice()),
+        Err(_) => Status::NoMemory,
+    }
+}
+
+/// Ends the run with the refusal of a command that was read.
+fn refuse_command<K: Sink>(alloc: Global, sink: &mut K, bound: u32, fault: SessionFault) -> Status
+    ensures told { EndsWithLine (fault_line bound fault) (K.written sink.old) (K.written sink.new) result }
+    ensures write_fault { result ≡ Status.WriteFault → Rose (K.faults sink.old) (K.faults sink.new) }
+    ensures counted { K.faults sink.old ≤ K.faults sink.new }
+{
+    let mut line = Vec::new(alloc);
+    match write_fault(alloc, &mut line, bound, fault) {
+        Ok(()) => end_with(sink, line.as_slice()),
+        Err(_) => Status::NoMemory,
+    }
 }

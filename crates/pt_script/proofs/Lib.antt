@@ -1,0 +1,4 @@
+pub mod Joining
+pub mod AskedSets
+pub mod SetTellings
+pub mod Steps
