@@ -1,22 +1,22 @@
 -- Handles of sets that are asked for, and what they become over more variables and in longer lists.
-use Rattle.std.proofs.Common.{◌≡◌, ◌⊎◌, ◌↔◌, inl, inr, ℕ, zero, suc, ◌+◌, ◌*◌, ◌<◌, ◌≤◌, List, [], ◌∷◌, ◌++◌, length, map, refl, ap, sym, subst, ◌∙◌, arith}
-use Rattle.std.specs.Prelude.{ℤ, Some, slice_get, slice_index, slice_index_or}
+use Rattle.std.proofs.Common.{◌≡◌, ◌⊎◌, inl, inr, ℕ, zero, suc, ◌<◌, ◌≤◌, List, [], ◌∷◌, ◌++◌, length, map, refl, ap, sym, subst, ◌∙◌, arith}
+use Rattle.std.specs.Prelude.{Some, slice_get, slice_index, slice_index_or}
 use Rattle.std.specs.List.{AllByRecursion}
 use Rattle.pt_sets.specs.Elements.{AnyByRecursion, ContainsByRecursion}
 use Rattle.pt_sets.specs.Words.{Vector}
 use Rattle.pt_sets.specs.Sets.{VectorSet, SameSet}
-use Rattle.pt_sets.specs.Costs.{CostIs, CostWithin, SameResidual}
+use Rattle.pt_sets.specs.Costs.{CostIs, SameResidual}
 use Rattle.pt_sets.specs.Restricting.{IsTrackMap, widened}
 use Rattle.pt_sets.specs.Lists.{Lists, Home, Extends}
 use Rattle.pt_sets.specs.Known.{Lacks}
 use Rattle.pt_sets.proofs.Counting.{SameSet-sym, SameSet-trans, residual-equivalence}
 use Rattle.pt_handles.specs.declared.handle.Handle.{Handle}
-use Rattle.pt_handles.specs.Handles.{Has, IsKnown, SetOfHandle}
+use Rattle.pt_handles.specs.Handles.{Has, SetOfHandle}
 use Rattle.pt_handles.specs.Laws.{LongerListsKnow}
 use Rattle.pt_formula.specs.declared.node.Node.{Node}
 use Rattle.pt_formula.specs.declared.node.Position.{Position}
 use Rattle.pt_formula.specs.Forms.{IsIncreasing}
-use Rattle.pt_formula.specs.Truth.{Tree, Solutions, Widened, Holds, valuation, free_variables}
+use Rattle.pt_formula.specs.Truth.{Tree, Solutions, Widened, free_variables}
 use Rattle.pt_formula.specs.Formulas.{IsFormula, node_at, children, tree_of, variables_of}
 use Rattle.pt_formula.specs.Costs.{IsPath, Reaches, IsReached, NoneRefused, track_of}
 use Rattle.pt_eval.specs.Evaluating.{IsCheap, IsFullAt, HasSolutions, HaveSolutions, HasFewResiduals, KnowsReached, LacksSolutions}
@@ -32,7 +32,7 @@ use Rattle.pt_read.specs.Fits.{IsPredicate}
 use Rattle.pt_script.specs.declared.fault.SessionFault.{SessionFault}
 use Rattle.pt_script.specs.declared.fault.SessionFault.TheVariants.{States, NoModel, WideValue, PopTooFar, Full, NoMemory}
 use Rattle.pt_script.specs.Step.{set_of, roots, predicates}
-use Rattle.pt_script.specs.Asks.{Asked, asked_set, AsksFor, KnowsAll, LacksAsked}
+use Rattle.pt_script.specs.Asks.{Asked, asked_set, AsksFor, KnowsAll}
 use Rattle.pt_script.specs.Sets.{HasSetOf, HaveSetsOf, RefusesAsked, FullOnlyWhere}
 
 -- ---- equal sets, and longer lists
@@ -102,9 +102,11 @@ all-cheap f rs bound none i reached d path = none d (reached-on f rs i d reached
 -- no predicate: the nodes alone
 pub knows-nodes : WideningLaw → (home : Home) (lists : Lists) (s : State) (rs : List ℕ) (bound : ℕ) → KnowsReached home lists s.formula rs → KnowsAll home lists (AsksFor s rs [] bound)
 knows-nodes law home lists s rs bound knows a (inl (i, reached, cheap, is)) =
-    let (h, has) = knows i reached in
-    (h, subst (λ (a : Asked). Has home lists (length a.variables) (asked_set a) h) (sym is)
-    (has-moved home lists (length (variables_of s.formula i)) (Solutions (tree_of s.formula i)) _ h (own-widened law (tree_of s.formula i)) has))
+    let (h, has) = knows i reached in (
+      h,
+      subst (λ (a : Asked). Has home lists (length a.variables) (asked_set a) h) (sym is)
+          (has-moved home lists (length (variables_of s.formula i)) (Solutions (tree_of s.formula i)) _ h (own-widened law (tree_of s.formula i)) has),
+    )
 knows-nodes law home lists s rs bound knows a (inr (cheap, any)) = absurd any
 
 pub knows-one : (home : Home) (lists : Lists) (s : State) (rs : List ℕ) (p : Predicate) (bound : ℕ) (h : Handle) →
@@ -129,8 +131,11 @@ pub refuses-nodes : WideningLaw → (home : Home) (limit : ℕ) (lists : Lists) 
     IsFullAt limit lists shard count × ((i : ℕ) × IsReached s.formula rs i × IsCheap s.formula bound i × LacksSolutions home limit lists s.formula i) → RefusesAsked home limit lists s rs [] bound (Full shard count)
 refuses-nodes law home limit lists s rs bound shard count (full, (i, reached, cheap, lacks)) = (
   full,
-  (record { variables = variables_of s.formula i; tree = tree_of s.formula i }, inl (i, reached, cheap, refl),
-  lacks-moved home limit lists (length (variables_of s.formula i)) (Solutions (tree_of s.formula i)) _ (own-widened law (tree_of s.formula i)) lacks),
+  (
+    record { variables = variables_of s.formula i; tree = tree_of s.formula i },
+    inl (i, reached, cheap, refl),
+    lacks-moved home limit lists (length (variables_of s.formula i)) (Solutions (tree_of s.formula i)) _ (own-widened law (tree_of s.formula i)) lacks,
+  ),
 )
 
 -- what is refused of the nodes is refused with predicates

@@ -1,5 +1,5 @@
 -- What queries of handles say of the sets of predicates.
-use Rattle.std.proofs.Common.{◌≡◌, ◌⊎◌, ◌↔◌, inl, inr, ℕ, ◌<◌, Bool, true, false, List, [], ◌∷◌, length, refl, sym, subst, ◌∙◌}
+use Rattle.std.proofs.Common.{◌≡◌, ◌↔◌, inl, inr, ℕ, Bool, true, false, List, [], ◌∷◌, length, refl, sym, subst, ◌∙◌}
 use Rattle.std.specs.Prelude.{IsTrue, decimal, slice_index_or}
 use Rattle.std.specs.List.{AllByRecursion}
 use Rattle.pt_sets.specs.Words.{Vector}
@@ -21,7 +21,6 @@ use Rattle.pt_read.specs.declared.command.Predicate.{Predicate}
 use Rattle.pt_read.specs.declared.command.CommandKind.TheVariants as kind
 use Rattle.pt_read.specs.Scope.{State}
 use Rattle.pt_script.specs.declared.fault.SessionFault.TheVariants.{States, WideValue}
-use Rattle.pt_script.specs.State.{Standing}
 use Rattle.pt_script.specs.Texts.{line, truth, vectors}
 use Rattle.pt_script.specs.Step.{set_of, Says, HasResiduals, same_in}
 use Rattle.pt_script.specs.Sets.{HasSetOf, HaveSetsOf, Tells, RefusesTelling}
@@ -126,8 +125,7 @@ module _ (home : Home) (lists : Lists) (s : State) (bound : ℕ) (p q : Predicat
         λ sub z count x. (two.agrees z count).0 (sub z count ((first.set.agrees z count).1 x)),
         λ sub z count x. (two.agrees z count).1 (sub z count ((first.set.agrees z count).0 x)),
       ) in
-      let here : CostWithin (SamePair m P Q) m bound = within-moved (SamePair m A B) (SamePair m P Q) m (λ v w _ _ h. (pairs-moved v w).0 h) bound (subst (λ k. CostWithin (SamePair k A B) k bound) first.tracks within) in
-      (
+      let here : CostWithin (SamePair m P Q) m bound = within-moved (SamePair m A B) (SamePair m P Q) m (λ v w _ _ h. (pairs-moved v w).0 h) bound (subst (λ k. CostWithin (SamePair k A B) k bound) first.tracks within) in (
         subst (λ (s : State). CostWithin (same_in s p q) (length p.parameters) bound) (sym at) here,
         subst (λ (s : State). Says (IsSubset (length p.parameters) (set_of s p) (set_of s q)) reply) (sym at) (says (IsSubset m A B) (IsSubset m P Q) told reply there moved e),
       )

@@ -1,7 +1,6 @@
 -- Steps of commands from what is known of their roots, refusals and replies.
-use Rattle.std.proofs.Common.{◌≡◌, ◌≢◌, ◌⊎◌, inl, inr, ℕ, ◌<◌, ◌≤◌, Bool, true, false, List, [], ◌∷◌, length, refl, ap, sym, subst, ◌∙◌, arith}
+use Rattle.std.proofs.Common.{◌≡◌, inl, inr, ℕ, ◌<◌, ◌≤◌, true, List, [], ◌∷◌, length, refl, ap, sym, subst, ◌∙◌, arith}
 use Rattle.std.specs.Prelude.{Option, Some, None, Result, Ok, Err, IfSome, IfNone, OnOk}
-use Rattle.pt_sets.specs.Words.{Vector}
 use Rattle.pt_sets.specs.Sets.{VectorSet, SameSet}
 use Rattle.pt_sets.specs.Lists.{Lists, Home}
 use Rattle.pt_sets.specs.Shortlex.{IsLeastMember}
@@ -10,7 +9,6 @@ use Rattle.pt_handles.specs.Handles.{SetOfHandle}
 use Rattle.pt_query.specs.Queries.{IsEmptySet}
 use Rattle.pt_eval.specs.Evaluating.{HasSolutions}
 use Rattle.pt_query.proofs.Causes.{least-moved}
-use Rattle.pt_formula.specs.declared.node.Position.{Position}
 use Rattle.pt_formula.specs.Costs.{NoneRefused}
 use Rattle.pt_read.specs.declared.command.Command.{Command}
 use Rattle.pt_read.specs.declared.command.CommandKind.{CommandKind}
@@ -22,7 +20,7 @@ use Rattle.pt_script.specs.declared.fault.SessionFault.TheVariants.{States, NoMo
 use Rattle.pt_script.specs.declared.solution.LeastSolution.{LeastSolution}
 use Rattle.pt_script.specs.declared.solution.LeastSolution.TheVariants.{Narrow, Wide}
 use Rattle.pt_script.specs.State.{Standing}
-use Rattle.pt_script.specs.Step.{Step, StepFails, roots, predicates, FindsLeast, FindsModel, HasSolution, conjunction_variables, ConjunctionHolds, IsFine, IsAnswered, Replies, plain_reply, success_after, standing_after, with_model, IsRefusedItself}
+use Rattle.pt_script.specs.Step.{Step, roots, predicates, FindsLeast, conjunction_variables, ConjunctionHolds, IsFine, IsAnswered, Replies, plain_reply, success_after, standing_after, with_model, IsRefusedItself}
 use Rattle.pt_script.specs.Asks.{AsksFor, KnowsAll, KnowsAsked}
 use Rattle.pt_script.specs.Sets.{AsksOfSets, RefusesAsked, Tells, RefusesTelling}
 use Rattle.pt_script.specs.Refusals.{RefusesCommand, RefusesChange, PopsBeyond, changes, verdict}

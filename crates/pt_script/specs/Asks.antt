@@ -1,5 +1,5 @@
 -- The sets that commands ask for, each named by a tree and the variables that it is over.
-use Rattle.std.specs.Prelude.{ℕ, ◌+◌, ◌*◌, ◌≡◌, ◌⊎◌, List, [], ◌∷◌, length, Option, Some, None, ⊤}
+use Rattle.std.specs.Prelude.{ℕ, ◌≡◌, ◌⊎◌, List, length, Option, None, ⊤}
 use Rattle.std.specs.List.{AllByRecursion}
 use Rattle.pt_sets.specs.Elements.{AnyByRecursion}
 use Rattle.pt_sets.specs.Words.{Vector}

@@ -2,8 +2,7 @@
 -- a solution is a fact and no test.
 use Rattle.std.specs.Prelude.{ℕ, ◌<◌, ◌≤◌, ◌≡◌, ◌⊎◌, Bool, true, false, if◌then◌else◌, List, [], ◌∷◌, length, Option, Some, None, ℤ, codes, decimal, unwrap_or, map, ⊤, Result, Ok, Err}
 use Rattle.std.specs.List.{AllByRecursion}
-use Rattle.pt_sets.specs.Elements.{PairsByRecursion}
-use Rattle.pt_sets.specs.Words.{Vector, AreLetters}
+use Rattle.pt_sets.specs.Words.{Vector}
 use Rattle.pt_sets.specs.Sets.{SameSet}
 use Rattle.pt_sets.specs.Costs.{CostAbove, CostWithin, CostIs, SamePair, SameResidual}
 use Rattle.pt_sets.specs.Shortlex.{IsLeastMember, IsFirstMembers}

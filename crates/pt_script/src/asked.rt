@@ -12,8 +12,8 @@ ghost use Rattle.pt_script.specs.Sets.{AsksOfSets, HasSetOf, HaveSetsOf, Refuses
 
 use crate::fault::SessionFault;
 use pt_eval::{EvalFault, Gate, evaluate, track_map};
-use pt_formula::laws::widening_puts_no_condition_on_added_variables;
 use pt_formula::NodeId;
+use pt_formula::laws::widening_puts_no_condition_on_added_variables;
 use pt_handles::{Handle, longer_lists_know};
 use pt_product::widen;
 use pt_query::state_count;
@@ -53,9 +53,7 @@ pub(crate) fn evaluate_roots<I: Interner, G: Gate, R: Threads>(
     widening_puts_no_condition_on_added_variables();
     let formula = scope.formula();
     let _formula = formula.len();
-    match evaluate(
-        rt, alloc, store, pass, formula, roots, bound, workers, gate,
-    ) {
+    match evaluate(rt, alloc, store, pass, formula, roots, bound, workers, gate) {
         Ok(handles) => Ok(handles),
         Err(EvalFault::States { node }) => Err(SessionFault::States {
             position: formula.position(node),

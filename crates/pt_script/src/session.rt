@@ -240,7 +240,17 @@ impl Session {
         ensures offers { I.Pass.offered pass.new ≤ I.Pass.offered pass.old + (length self.old.scope.formula + 2) * bound }
     {
         let roots = [self.scope.conjunction()];
-        let handles = evaluate_roots(rt, alloc, store, pass, &self.scope, &roots, bound, workers, gate)?;
+        let handles = evaluate_roots(
+            rt,
+            alloc,
+            store,
+            pass,
+            &self.scope,
+            &roots,
+            bound,
+            workers,
+            gate,
+        )?;
         let found = least_solution(alloc, &*pass, handles[0])?;
         let reply = verdict(alloc, &found)?;
         self.model = found;
@@ -274,12 +284,35 @@ impl Session {
         ensures offers { I.Pass.offered pass.new ≤ I.Pass.offered pass.old + (length self.now.scope.formula + 2) * bound }
     {
         let kind = &command.kind;
-        let handles = asked_sets(rt, alloc, store, pass, &self.scope, kind, bound, workers, gate)?;
-        tell(alloc, &*pass, &self.scope, kind, command.position, bound, &handles)
+        let handles = asked_sets(
+            rt,
+            alloc,
+            store,
+            pass,
+            &self.scope,
+            kind,
+            bound,
+            workers,
+            gate,
+        )?;
+        tell(
+            alloc,
+            &*pass,
+            &self.scope,
+            kind,
+            command.position,
+            bound,
+            &handles,
+        )
     }
 
     /// The values of constants in the model.
-    fn say_values(&self, alloc: Global, at: Position, constants: &[Constant]) -> Result<Vec<u8>, SessionFault>
+    fn say_values(
+        &self,
+        alloc: Global,
+        at: Position,
+        constants: &[Constant],
+    ) -> Result<Vec<u8>, SessionFault>
         ensures ok { IfOk result (λ reply. IfNarrow self.now.model (λ z. reply.items ≡ value_pairs (values_of self.now.scope z) constants.now)) }
         ensures err { IfErr result (RefusesSaying self.now.model at) }
     {
@@ -316,7 +349,13 @@ impl Session {
             }
             Some(LeastSolution::Narrow(values)) => {
                 let variables = self.conjunction_variables();
-                write_model(alloc, &mut reply, variables, values.as_slice(), self.scope.constants())?;
+                write_model(
+                    alloc,
+                    &mut reply,
+                    variables,
+                    values.as_slice(),
+                    self.scope.constants(),
+                )?;
             }
         }
         Ok(reply)
@@ -442,7 +481,11 @@ fn is_exit(kind: &CommandKind) -> bool
 }
 
 /// The least solution of the conjunction, where there is one, from a handle of its solutions.
-fn least_solution<P: Codes>(alloc: Global, pass: &P, solutions: Handle) -> Result<Option<LeastSolution>, NoMemory>
+fn least_solution<P: Codes>(
+    alloc: Global,
+    pass: &P,
+    solutions: Handle,
+) -> Result<Option<LeastSolution>, NoMemory>
     requires { IsKnown P.home (P.lists pass.now) solutions }
     ensures some { IfOk result (λ found. IfSome found (FindsLeast solutions.tracks (SetOfHandle (P.lists pass.now) solutions))) }
     ensures none { IfOk result (λ found. IfNone found (IsEmptySet solutions.tracks (SetOfHandle (P.lists pass.now) solutions))) }

@@ -235,11 +235,7 @@ fn text_of(kind: ReadKind) -> &'static [u8]
 }
 
 /// Adds the error line of a refusal to read to what is written. Want of memory is written with an empty text.
-pub fn write_refusal(
-    alloc: Global,
-    out: &mut Vec<u8>,
-    refusal: ReadRefusal,
-) -> Result<(), NoMemory>
+pub fn write_refusal(alloc: Global, out: &mut Vec<u8>, refusal: ReadRefusal) -> Result<(), NoMemory>
     ensures { OnOk result (out.new.items ≡ out.old.items ++ refusal_line refusal) }
 {
     write_error(alloc, out, refusal.position, text_of(refusal.kind))

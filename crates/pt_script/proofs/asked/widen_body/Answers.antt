@@ -1,7 +1,6 @@
-use Rattle.std.proofs.Common.{◌≡◌, ◌+◌, ◌≤◌, ℕ, List, length, arith, sym, ap, ◌∙◌}
+use Rattle.std.proofs.Common.{◌≡◌, arith, sym, ◌∙◌}
 use Rattle.std.specs.Cmp.Lexicographic.{same_text}
 use Rattle.pt_formula.specs.Formulas.{variables_of}
-use Rattle.pt_eval.specs.Parts.{tracks_of}
 use Rattle.pt_handles.specs.Handles.{SetOfHandle}
 use Rattle.pt_script.proofs.AskedSets.{own-set, map-for, set-for, lacks-for, few-offered}
 use Rattle.pt_script.proofs.asked.widen_body.Goals as goal
@@ -34,11 +33,10 @@ returns-in-Ok-widen-clause-offers g c =
 pub returns-in-Err-Full-clause-err : goal.returns-in-Err-Full-clause-err
 returns-in-Err-Full-clause-err g c =
     let inner : c.variables-inner.result.now ≡ variables_of c.args.scope.now.formula c.args.predicate.now.body = rw c.formula.ensures at c.variables-inner.ensures.free in
-    let (count, full, lacks) = (rw c.in-Err-Full.field-0-is at c.in-Err-Full.ensures.full) in
-    (
+    let (count, full, lacks) = (rw c.in-Err-Full.field-0-is at c.in-Err-Full.ensures.full) in (
       (count, full),
       lacks-for c.args.scope.now c.args.predicate.now c.variables-inner.result.now c.as_slice-outer.result.now c.deref.result.now inner c.as_slice-outer.ensures (c.deref.ensures.value ∙ c.in-Ok-track_map.ensures)
-      g.I.Pass.Codes.home (g.I.Interner.limit_of c.args.store.now) (g.I.Pass.Codes.lists c.widen.new.pass) (SetOfHandle (g.I.Pass.Codes.lists c.args.pass.now) c.args.body) c.requires.body.set lacks,
+          g.I.Pass.Codes.home (g.I.Interner.limit_of c.args.store.now) (g.I.Pass.Codes.lists c.widen.new.pass) (SetOfHandle (g.I.Pass.Codes.lists c.args.pass.now) c.args.body) c.requires.body.set lacks,
     )
 
 pub returns-in-Err-Full-clause-offers : goal.returns-in-Err-Full-clause-offers

@@ -1,4 +1,4 @@
-use Rattle.std.proofs.Common.{◌≡◌, ◌++◌, ◌∷◌, [], ◌∙◌, ap, sym, rules, List, ℕ, ℤ, pos, flat_map, drop, get_or, take, length, ◌-◌, append_assoc}
+use Rattle.std.proofs.Common.{◌≡◌, ◌++◌, ◌∷◌, [], ◌∙◌, ap, sym, rules, List, ℕ, ℤ, pos, flat_map, drop, get_or, take, length, ◌-◌}
 use Rattle.std.proofs.lemmas.List.{take_all}
 use Rattle.pt_code.proofs.Parts.{written-more}
 use Rattle.pt_script.specs.Texts.{integer}

@@ -1,4 +1,4 @@
-use Rattle.std.proofs.Common.{◌≡◌, ◌++◌, ◌∷◌, ◌∙◌, ap, sym, rules, List, ℕ, flat_map, drop, get_or, take, length, ◌-◌}
+use Rattle.std.proofs.Common.{◌≡◌, ◌++◌, ◌∷◌, ◌∙◌, ap, sym, List, ℕ, flat_map, drop, get_or, take, length, ◌-◌}
 use Rattle.pt_formula.specs.Truth.{valuation}
 use Rattle.pt_read.specs.declared.command.Constant.{Constant}
 use Rattle.pt_script.specs.Texts.{value_pair}

@@ -1,4 +1,4 @@
-use Rattle.std.proofs.Common.{◌≡◌, get_or, ap, sym, ◌∙◌, ◌++◌}
+use Rattle.std.proofs.Common.{◌≡◌, get_or, ap, ◌∙◌, ◌++◌}
 use Rattle.pt_code.proofs.Parts.{written-more}
 use Rattle.pt_formula.specs.Truth.{valuation}
 use Rattle.pt_read.specs.declared.command.Constant.{Constant}
