@@ -1,5 +1,5 @@
 -- One command of a run: what was read, what stands after it.
-use Rattle.std.proofs.Common.{◌≡◌, ℕ, ◌<◌, ◌^◌, arith, List, refl, inl, inr, ap, sym, subst, ◌∙◌, length}
+use Rattle.std.proofs.Common.{◌≡◌, ℕ, suc, ◌<◌, ◌^◌, arith, List, refl, inl, inr, ap, sym, subst, ◌∙◌, length}
 use Rattle.std.specs.Prelude.{Option, Some, None}
 use Rattle.pt_formula.specs.declared.node.Node.{Node}
 use Rattle.pt_formula.specs.declared.node.Position.{Position}
@@ -73,3 +73,14 @@ pub below_depth : (c : Command) (script left : Script) (s shown new : State) →
 below_depth c script left s shown new next is depth value low =
     let kept = depth_kept c script left s new next in
     omega (arith, kept, ap (λ (t : State). t.depth) is, value, low)
+
+-- how many commands are left
+abbrev pub commands_in : Script → ℕ
+commands_in Done = 0
+commands_in (Stops e) = 0
+commands_in (Reads_list p items rest) = suc (commands_in rest)
+
+pub one_less : (c : Command) (script left : Script) (s new : State) → IsNext (Some c) script s left new → commands_in left < commands_in script
+one_less c Done left s new next = absurd next
+one_less c (Stops e) left s new next = absurd next
+one_less c (Reads_list p items rest) left s new next = omega (arith, ap commands_in next.2)

@@ -1,14 +1,14 @@
 -- From the words and the source to the text that a run answers.
-use Rattle.std.proofs.Common.{◌≡◌, ℕ, ◌+◌, ◌≤◌, ◌<◌, ◌^◌, List, [], ◌∷◌, ◌++◌, length, drop, refl, inl, inr, ap, sym, subst, ◌∙◌, arith, length-append, true}
+use Rattle.std.proofs.Common.{◌≡◌, ℕ, ◌+◌, ◌≤◌, ◌<◌, ◌^◌, List, [], ◌∷◌, ◌++◌, length, drop, ◌⊎◌, refl, inl, inr, ap, sym, subst, ◌∙◌, arith, length-append, true}
 use Rattle.std.specs.Prelude.{Option, Some, None, IfSome, codes, decimal}
 use Rattle.std.proofs.lemmas.Fmt.{decimal_injective}
 use Rattle.pt_io.specs.Streams.{TookCount}
-use Rattle.pt_sets.specs.Lists.{Lists, Home}
+use Rattle.pt_sets.specs.Lists.{Lists, Home, list_of}
 use Rattle.pt_script.specs.Texts.{too_long}
 use Rattle.pt_main.specs.declared.status.Status.{Status}
 use Rattle.pt_main.specs.declared.status.Status.TheVariants as status
 use Rattle.pt_main.specs.Options.{GiveBound}
-use Rattle.pt_main.specs.Ending.{OfScript, IfWhole, IfFull, Answers, HasRead}
+use Rattle.pt_main.specs.Ending.{OfScript, IfWhole, IfFull, IsEnded, HasRoom, Answers, HasRead}
 use Rattle.pt_main.specs.Wanted.{KnowAnswered, OffersWithin}
 use Rattle.pt_main.specs.Parts.{EndsWithLine, IsOfText}
 use Rattle.pt_main.proofs.Streaming.{wrote-nothing, wrote-same}
@@ -93,3 +93,18 @@ long_of_text before after status.Done told = absurd told
 long_of_text before after status.Usage told = absurd told
 long_of_text before after status.ReadFault told = absurd told
 long_of_text before after (status.StoreFull shard) told = absurd told
+
+-- ---- a run that ends before the script has a cause
+
+pub completes : (how : Status) (sink_rose : Type 0) (limit : ℕ) (lists : Lists) → IsOfText how → (how ≡ status.WriteFault → sink_rose) → IfFull how (λ shard. length (list_of lists shard) ≡ limit) → ¬ sink_rose → HasRoom limit lists → (how ≡ status.NoMemory) ⊎ IsEnded how
+completes status.Done sink_rose limit lists is write full fine room = inr tt
+completes status.Refused sink_rose limit lists is write full fine room = inr tt
+completes status.Usage sink_rose limit lists is write full fine room = absurd is
+completes status.ReadFault sink_rose limit lists is write full fine room = absurd is
+completes status.WriteFault sink_rose limit lists is write full fine room = absurd (fine (write refl))
+completes status.NoMemory sink_rose limit lists is write full fine room = inl refl
+completes (status.StoreFull shard) sink_rose limit lists is write full fine room = absurd (room shard full)
+
+pub long_full : (before after : Option (List ℕ)) (how : Status) (P : ℕ → Type 0) → EndsWithLine too_long before after how → IfFull how P
+long_full before after (status.StoreFull shard) P told = absurd told
+long_full before after _ P told = tt

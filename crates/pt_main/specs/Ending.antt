@@ -1,6 +1,7 @@
 -- How a run ended.
-use Rattle.std.specs.Prelude.{ℕ, ◌≡◌, true, false, Bool, List, [], Option, Some, IfSome, drop, ⊤}
+use Rattle.std.specs.Prelude.{ℕ, ◌≡◌, ◌≢◌, true, false, Bool, List, [], Option, Some, IfSome, drop, length, ⊤}
 use Rattle.pt_io.specs.Streams.{Wrote}
+use Rattle.pt_sets.specs.Lists.{Lists, list_of}
 use Rattle.pt_main.specs.declared.status.Status.{Status}
 use Rattle.pt_main.specs.declared.status.Status.TheVariants.{Done, Refused, Usage, ReadFault, WriteFault, NoMemory, StoreFull}
 use Rattle.pt_main.specs.Options.{GiveBound}
@@ -51,3 +52,13 @@ exit_number_of ReadFault = 3
 exit_number_of WriteFault = 4
 exit_number_of NoMemory = 5
 exit_number_of (StoreFull shard) = 6
+
+-- the script was answered to its end, or to its first refusal
+abbrev pub IsEnded : Status → Type 0
+IsEnded Done = ⊤
+IsEnded Refused = ⊤
+IsEnded _ = ⊥
+
+-- no list of a pass is at the limit
+abbrev pub HasRoom : ℕ → Lists → Type 0
+HasRoom limit lists = (shard : ℕ) → length (list_of lists shard) ≢ limit

@@ -6,7 +6,7 @@ ghost use Rattle.pt_read.specs.Fits.{FitsKind};
 ghost use Rattle.pt_script.specs.Asks.{CommandAsks, KnowsAsked, LacksAsked};
 ghost use Rattle.pt_script.specs.Texts.{refusal_line, fault_line, too_long};
 ghost use Rattle.pt_main.specs.Options.{AreOptions};
-ghost use Rattle.pt_main.specs.Ending.{OfScript, IfWhole, IfFull, Answers, HasRead};
+ghost use Rattle.pt_main.specs.Ending.{OfScript, IfWhole, IfFull, IsEnded, HasRoom, Answers, HasRead};
 ghost use Rattle.pt_main.specs.Wanted.{LackAsked, KnowAnswered, OffersWithin};
 ghost use Rattle.pt_main.specs.Parts.{EndsWithLine, EndsWithReply, CommandTold, IfAnswered, IfStops, IsOfText, EndsWithoutLine, HasReadLine};
 
@@ -54,6 +54,7 @@ pub fn run<S: Source, K: Sink, G: Gate, I: Interner, R: Threads>(
     ensures read { IfSome (S.left source.old) (λ text. HasRead text (S.left source.new) result) }
     ensures known { IfWhole result (OfScript (S.left source.old) (map string_bytes words.now) (KnowAnswered I.Pass.home (I.Pass.lists pass.new))) }
     ensures offers { OfScript (S.left source.old) (map string_bytes words.now) (λ text bound. OffersWithin text bound (I.Pass.offered pass.old) (I.Pass.offered pass.new)) }
+    ensures complete { AreOptions (map string_bytes words.now) → ¬ Rose (S.faults source.old) (S.faults source.new) → ¬ Rose (K.faults sink.old) (K.faults sink.new) → HasRoom (I.limit_of store.now) (I.Pass.lists pass.new) → (result ≡ Status.NoMemory) ⊎ IsEnded result }
     ensures counted { (S.faults source.old ≤ S.faults source.new) × (K.faults sink.old ≤ K.faults sink.new) }
     ensures extends { Extends (I.Pass.lists pass.old) (I.Pass.lists pass.new) }
     ensures kept { I.owns store.now pass.new }
@@ -109,9 +110,9 @@ fn answer<K: Sink, G: Gate, I: Interner, R: Threads>(
     };
     let mut reader = Reader::new(text);
     longer_lists_know();
-    for _ in 0..u64::MAX {
+    'commands: loop {
         if session.scope().given() > MAX_VARIABLES || session.scope().depth() >= MAX_DEPTH {
-            break;
+            return Status::NoMemory;
         }
         match session.read_command(alloc, &mut reader) {
             Ok(None) => return Status::Done,
@@ -135,7 +136,6 @@ fn answer<K: Sink, G: Gate, I: Interner, R: Threads>(
             Err(refusal) => return refuse_reading(alloc, sink, refusal),
         }
     }
-    Status::NoMemory
 }
 
 /// Answers a command, and writes its reply or the line of its refusal. The run goes on, or it ends as the status says.

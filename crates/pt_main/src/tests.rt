@@ -8,6 +8,8 @@ use std::process::Abort;
 use std::test::Fail;
 use std::thread::Threads;
 
+mod sets;
+
 /// The words of a line, if it is not empty.
 fn words_of(alloc: Global, line: &str) -> Result<Vec<String>, Fail> {
     let mut words = Vec::new(alloc);
@@ -49,6 +51,18 @@ fn expect(
     };
     assert_eq!(rt; sink.bytes(), output.as_bytes(), "{script}");
     assert_eq!(rt; status, want, "{script}");
+    Ok(())
+}
+
+/// Each script gives its output under its words.
+pub(crate) fn expect_all(
+    rt: &(impl Abort + Eprint + Threads),
+    alloc: Global,
+    rows: &[(&str, &str, &str)],
+) -> Result<(), Fail> {
+    for row in rows {
+        expect(rt, alloc, row.0, row.1, row.2)?;
+    }
     Ok(())
 }
 

@@ -12,3 +12,6 @@ pub use fault::SessionFault;
 pub use pt_digits::NoMemory;
 pub use session::{Reply, Session};
 pub use texts::{write_fault, write_refusal, write_too_long};
+
+#[cfg(test)]
+mod tests;

@@ -4,17 +4,17 @@ use Rattle.pt_sets.proofs.ListLaws.{Extends-refl, Extends-trans}
 use Rattle.pt_read.specs.Reader.{left}
 use Rattle.pt_script.specs.State.{Standing}
 use Rattle.pt_main.specs.Parts.{CommandTold}
-use Rattle.pt_main.proofs.Stepping.{may_refuse, below_depth}
+use Rattle.pt_main.proofs.Stepping.{may_refuse, below_depth, one_less}
 use Rattle.pt_main.proofs.Underway.{begins_at, within, goes_on}
 use Rattle.pt_main.proofs.Growing.{read}
-use Rattle.pt_main.proofs.Endings.{front_of_nothing, done, done_known, cut_off, refused, refused_known, ends_with, ends_known, ends_lacking}
+use Rattle.pt_main.proofs.Endings.{front_of_nothing, done, done_known, cut_off, refused, refused_known, ends_with, ends_known}
 use Rattle.pt_main.proofs.script.answer.Goals as goal
 
 pub returns-in_default-clause-answer : goal.returns-in_default-clause-answer
 returns-in_default-clause-answer g c = front_of_nothing c.args.text.now c.args.bound (g.K.Sink.written c.args.sink.now)
 
-pub loop-init : goal.loop-init
-loop-init g c = record {
+pub commands-init : goal.commands-init
+commands-init g c = record {
   underway = begins_at c.args.text.now c.args.bound g.I.Pass.Codes.home (g.K.Sink.written c.args.sink.now) (g.I.Pass.Codes.lists c.args.pass.now) (g.I.Pass.Codes.offered c.args.pass.now) c.in-Ok.session c.new-reader.result c.in-Ok.ensures c.new-reader.ensures c.requires.size;
   counted = omega arith;
   extends = Extends-refl (g.I.Pass.Codes.lists c.args.pass.now);
@@ -24,56 +24,61 @@ loop-init g c = record {
 pub returns-in-Ok-None-clause-answer : goal.returns-in-Ok-None-clause-answer
 returns-in-Ok-None-clause-answer g c =
     let answer = rw c.in-Ok-None.field-0-is at c.in-Ok-None.ensures.answer in
-    done c.loop.invariant.underway (left c.read_command.new.reader) c.read_command.new.self.scope answer
+    done c.commands.invariant.underway (left c.read_command.new.reader) c.read_command.new.self.scope answer
 
 pub returns-in-Ok-None-clause-known : goal.returns-in-Ok-None-clause-known
 returns-in-Ok-None-clause-known g c =
     let answer = rw c.in-Ok-None.field-0-is at c.in-Ok-None.ensures.answer in
-    done_known c.loop.invariant.underway (left c.read_command.new.reader) c.read_command.new.self.scope answer
+    done_known c.commands.invariant.underway (left c.read_command.new.reader) c.read_command.new.self.scope answer
 
 pub answer_command-told-requires-clause-depth : goal.answer_command-told-requires-clause-depth
 answer_command-told-requires-clause-depth g c κs within =
     let answer = rw c.in-Ok-Some.field-0-is at c.in-Ok-Some.ensures.answer in
-    below_depth c.in-Ok-Some.command (left c.loop.reader) (left c.read_command.new.reader) c.loop.session.scope c.scope-else-given-gt-MAX_VARIABLES.result.now c.read_command.new.self.scope answer c.scope-else-given-gt-MAX_VARIABLES.ensures c.depth.result c.depth.ensures c.if-depth-ge-MAX_DEPTH.false
+    below_depth c.in-Ok-Some.command (left c.commands.reader) (left c.read_command.new.reader) c.commands.session.scope c.scope-else-given-gt-MAX_VARIABLES.result.now c.read_command.new.self.scope answer c.scope-else-given-gt-MAX_VARIABLES.ensures c.depth.result c.depth.ensures c.if-depth-ge-MAX_DEPTH.false
 
 pub returns-in-Some-clause-answer : goal.returns-in-Some-clause-answer
 returns-in-Some-clause-answer g c =
     let answer = rw c.in-Ok-Some.field-0-is at c.in-Ok-Some.ensures.answer in
-    let told = subst (λ (t : Standing). CommandTold t c.in-Ok-Some.command c.args.bound c.answer_command-told.new.session (g.K.Sink.written c.loop.sink) (g.K.Sink.written c.answer_command-told.new.sink) (Some c.in-Some.status)) c.read_command.ensures.rest c.in-Some.ensures.told in
-    ends_with (read c.loop.invariant.underway c.in-Ok-Some.command c.read_command.new.self.scope (left c.read_command.new.reader) answer) c.answer_command-told.new.session (g.K.Sink.written c.answer_command-told.new.sink) c.in-Some.status told
+    let told = subst (λ (t : Standing). CommandTold t c.in-Ok-Some.command c.args.bound c.answer_command-told.new.session (g.K.Sink.written c.commands.sink) (g.K.Sink.written c.answer_command-told.new.sink) (Some c.in-Some.status)) c.read_command.ensures.rest c.in-Some.ensures.told in
+    ends_with (read c.commands.invariant.underway c.in-Ok-Some.command c.read_command.new.self.scope (left c.read_command.new.reader) answer) c.answer_command-told.new.session (g.K.Sink.written c.answer_command-told.new.sink) c.in-Some.status told
 
 pub returns-in-Some-clause-known : goal.returns-in-Some-clause-known
 returns-in-Some-clause-known g c =
     let answer = rw c.in-Ok-Some.field-0-is at c.in-Ok-Some.ensures.answer in
-    let told = subst (λ (t : Standing). CommandTold t c.in-Ok-Some.command c.args.bound c.answer_command-told.new.session (g.K.Sink.written c.loop.sink) (g.K.Sink.written c.answer_command-told.new.sink) (Some c.in-Some.status)) c.read_command.ensures.rest c.in-Some.ensures.told in
-    ends_known (read c.loop.invariant.underway c.in-Ok-Some.command c.read_command.new.self.scope (left c.read_command.new.reader) answer) c.longer_lists_know.ensures c.answer_command-told.new.session (g.K.Sink.written c.answer_command-told.new.sink) c.in-Some.status (g.I.Pass.Codes.lists c.answer_command-told.new.pass) c.in-Some.ensures.extends told c.in-Some.ensures.asked
+    let told = subst (λ (t : Standing). CommandTold t c.in-Ok-Some.command c.args.bound c.answer_command-told.new.session (g.K.Sink.written c.commands.sink) (g.K.Sink.written c.answer_command-told.new.sink) (Some c.in-Some.status)) c.read_command.ensures.rest c.in-Some.ensures.told in
+    ends_known (read c.commands.invariant.underway c.in-Ok-Some.command c.read_command.new.self.scope (left c.read_command.new.reader) answer) c.longer_lists_know.ensures c.answer_command-told.new.session (g.K.Sink.written c.answer_command-told.new.sink) c.in-Some.status (g.I.Pass.Codes.lists c.answer_command-told.new.pass) c.in-Some.ensures.extends told c.in-Some.ensures.asked
 
 pub returns-in-Some-clause-offers : goal.returns-in-Some-clause-offers
 returns-in-Some-clause-offers g c =
     let answer = rw c.in-Ok-Some.field-0-is at c.in-Ok-Some.ensures.answer in
-    within (read c.loop.invariant.underway c.in-Ok-Some.command c.read_command.new.self.scope (left c.read_command.new.reader) answer) (g.I.Pass.Codes.offered c.answer_command-told.new.pass) c.in-Some.ensures.offers
+    within (read c.commands.invariant.underway c.in-Ok-Some.command c.read_command.new.self.scope (left c.read_command.new.reader) answer) (g.I.Pass.Codes.offered c.answer_command-told.new.pass) c.in-Some.ensures.offers
 
 pub returns-in-Some-clause-extends : goal.returns-in-Some-clause-extends
-returns-in-Some-clause-extends g c = Extends-trans _ _ _ c.loop.invariant.extends c.in-Some.ensures.extends
+returns-in-Some-clause-extends g c = Extends-trans _ _ _ c.commands.invariant.extends c.in-Some.ensures.extends
 
 pub returns-in-Err-clause-answer : goal.returns-in-Err-clause-answer
 returns-in-Err-clause-answer g c =
-    refused c.loop.invariant.underway c.in-Err.refusal c.refuse_reading.result (g.K.Sink.written c.refuse_reading.new.sink) (λ has. may_refuse c.loop.reader c.loop.session.scope c.in-Err.refusal has c.in-Err.ensures.answer.0) c.refuse_reading.ensures.line c.refuse_reading.ensures.told
+    refused c.commands.invariant.underway c.in-Err.refusal c.refuse_reading.result (g.K.Sink.written c.refuse_reading.new.sink) (λ has. may_refuse c.commands.reader c.commands.session.scope c.in-Err.refusal has c.in-Err.ensures.answer.0) c.refuse_reading.ensures.line c.refuse_reading.ensures.told
 
 pub returns-in-Err-clause-known : goal.returns-in-Err-clause-known
 returns-in-Err-clause-known g c =
-    refused_known c.loop.invariant.underway c.in-Err.refusal c.refuse_reading.result (g.K.Sink.written c.refuse_reading.new.sink) (λ has. may_refuse c.loop.reader c.loop.session.scope c.in-Err.refusal has c.in-Err.ensures.answer.0) c.refuse_reading.ensures.line c.refuse_reading.ensures.told
+    refused_known c.commands.invariant.underway c.in-Err.refusal c.refuse_reading.result (g.K.Sink.written c.refuse_reading.new.sink) (λ has. may_refuse c.commands.reader c.commands.session.scope c.in-Err.refusal has c.in-Err.ensures.answer.0) c.refuse_reading.ensures.line c.refuse_reading.ensures.told
 
-pub loop-preserved : goal.loop-preserved
-loop-preserved g c =
+pub commands-preserved : goal.commands-preserved
+commands-preserved g c =
     let answer = rw c.in-Ok-Some.field-0-is at c.in-Ok-Some.ensures.answer in
-    let told = subst (λ (t : Standing). CommandTold t c.in-Ok-Some.command c.args.bound c.answer_command-told.new.session (g.K.Sink.written c.loop.sink) (g.K.Sink.written c.answer_command-told.new.sink) None) c.read_command.ensures.rest c.in-None.ensures.told in
+    let told = subst (λ (t : Standing). CommandTold t c.in-Ok-Some.command c.args.bound c.answer_command-told.new.session (g.K.Sink.written c.commands.sink) (g.K.Sink.written c.answer_command-told.new.sink) None) c.read_command.ensures.rest c.in-None.ensures.told in
     record {
-      underway = goes_on (read c.loop.invariant.underway c.in-Ok-Some.command c.read_command.new.self.scope (left c.read_command.new.reader) answer) c.longer_lists_know.ensures told.1.0 c.answer_command-told.new.session told.1.1 told.0 (g.K.Sink.written c.answer_command-told.new.sink) told.1.2 (g.I.Pass.Codes.lists c.answer_command-told.new.pass) c.in-None.ensures.extends c.in-None.ensures.asked (g.I.Pass.Codes.offered c.answer_command-told.new.pass) c.in-None.ensures.offers;
-      counted = omega (arith, c.loop.invariant.counted, c.in-None.ensures.counted);
-      extends = Extends-trans _ _ _ c.loop.invariant.extends c.in-None.ensures.extends;
+      underway = goes_on (read c.commands.invariant.underway c.in-Ok-Some.command c.read_command.new.self.scope (left c.read_command.new.reader) answer) c.longer_lists_know.ensures told.1.0 c.answer_command-told.new.session told.1.1 told.0 (g.K.Sink.written c.answer_command-told.new.sink) told.1.2 (g.I.Pass.Codes.lists c.answer_command-told.new.pass) c.in-None.ensures.extends c.in-None.ensures.asked (g.I.Pass.Codes.offered c.answer_command-told.new.pass) c.in-None.ensures.offers;
+      counted = omega (arith, c.commands.invariant.counted, c.in-None.ensures.counted);
+      extends = Extends-trans _ _ _ c.commands.invariant.extends c.in-None.ensures.extends;
       kept = c.in-None.ensures.kept;
     }
 
-pub returns-clause-answer : goal.returns-clause-answer
-returns-clause-answer g c = cut_off c.loop.invariant.underway
+pub commands-smaller : goal.commands-smaller
+commands-smaller g c =
+    let answer = rw c.in-Ok-Some.field-0-is at c.in-Ok-Some.ensures.answer in
+    one_less c.in-Ok-Some.command (left c.commands.reader) (left c.read_command.new.reader) c.commands.session.scope c.read_command.new.self.scope answer
+
+pub returns-then-given-gt-MAX_VARIABLES-clause-answer : goal.returns-then-given-gt-MAX_VARIABLES-clause-answer
+returns-then-given-gt-MAX_VARIABLES-clause-answer g c = cut_off c.commands.invariant.underway

@@ -1,8 +1,9 @@
 use Rattle.std.proofs.Common.{◌≡◌, ◌≤◌, ℕ, List, map, string_bytes, arith}
+use Rattle.pt_io.specs.Streams.{Rose}
 use Rattle.pt_main.specs.Ending.{OfScript, Answers, WroteFrontOfOutput}
 use Rattle.pt_main.specs.Wanted.{LackAsked, KnowAnswered, OffersWithin}
 use Rattle.pt_main.proofs.WholeText.{read_whole, read_past}
-use Rattle.pt_main.proofs.Whole.{of_text, of_any, of_long, if_full, if_whole, if_whole_any, has_read, long_answer, long_known, long_of_text}
+use Rattle.pt_main.proofs.Whole.{of_text, of_any, of_long, if_full, if_whole, if_whole_any, has_read, long_answer, long_known, long_of_text, long_full, completes}
 use Rattle.pt_main.proofs.Endings.{front_of_nothing}
 use Rattle.pt_main.proofs.script.run.Goals as goal
 
@@ -51,3 +52,11 @@ returns-in-Err-TooLong-clause-known g c =
 pub returns-in-Err-NoMemory-clause-answer : goal.returns-in-Err-NoMemory-clause-answer
 returns-in-Err-NoMemory-clause-answer g c =
     of_any (g.S.Source.left c.args.source.now) (map string_bytes c.args.words.now) (λ text bound. WroteFrontOfOutput text bound (g.K.Sink.written c.args.sink.now) (g.K.Sink.written c.args.sink.now)) (λ text bound. front_of_nothing text bound (g.K.Sink.written c.args.sink.now))
+
+pub returns-in-Ok-clause-complete : goal.returns-in-Ok-clause-complete
+returns-in-Ok-clause-complete g c =
+    λ options read write room. completes c.answer.result (Rose (g.K.Sink.faults c.args.sink.now) (g.K.Sink.faults c.answer.new.sink)) (g.I.Interner.limit_of c.args.store.now) (g.I.Pass.Codes.lists c.answer.new.pass) c.answer.ensures.of_text c.answer.ensures.write_fault c.answer.ensures.store_full write room
+
+pub returns-in-Err-TooLong-clause-complete : goal.returns-in-Err-TooLong-clause-complete
+returns-in-Err-TooLong-clause-complete g c =
+    λ options read write room. completes c.refuse_text.result (Rose (g.K.Sink.faults c.args.sink.now) (g.K.Sink.faults c.refuse_text.new.sink)) (g.I.Interner.limit_of c.args.store.now) (g.I.Pass.Codes.lists c.args.pass.now) (long_of_text (g.K.Sink.written c.args.sink.now) (g.K.Sink.written c.refuse_text.new.sink) c.refuse_text.result c.refuse_text.ensures.told) c.refuse_text.ensures.write_fault (long_full (g.K.Sink.written c.args.sink.now) (g.K.Sink.written c.refuse_text.new.sink) c.refuse_text.result _ c.refuse_text.ensures.told) write room
