@@ -1,5 +1,5 @@
 -- How a run on a text ends.
-use Rattle.std.proofs.Common.{◌≡◌, ℕ, ◌≤◌, ◌<◌, Bool, true, false, List, [], ◌∷◌, ◌++◌, length, refl, ◌⊎◌, inl, inr, ap, sym, subst, ◌∙◌, append_assoc, arith}
+use Rattle.std.proofs.Common.{◌≡◌, ℕ, Bool, true, false, List, [], ◌∷◌, ◌++◌, length, refl, ◌⊎◌, inl, inr, ap, sym, ◌∙◌, append_assoc, arith}
 use Rattle.std.specs.Prelude.{Option, Some, None}
 use Rattle.std.proofs.lemmas.List.{append-nil}
 use Rattle.std.proofs.lemmas.Bool.{cases_lt}
@@ -20,7 +20,7 @@ use Rattle.pt_main.specs.declared.status.Status.{Status}
 use Rattle.pt_main.specs.declared.status.Status.TheVariants as status
 use Rattle.pt_main.specs.Parts.{EndsWithLine, CommandTold, IfAnswered, IfStops, HasReadLine}
 use Rattle.pt_main.specs.Runs.{Turn, HasRun}
-use Rattle.pt_main.specs.Output.{Ends, IsRefused, IsFrontOfOutput, replies}
+use Rattle.pt_main.specs.Output.{Ends, IsRefused, replies}
 use Rattle.pt_main.specs.Ending.{WroteOutput, WroteFrontOfOutput, Answers, IfWhole, IfFull}
 use Rattle.pt_main.specs.Wanted.{KnowAnswered, LackAsked, OffersWithin}
 use Rattle.pt_main.proofs.Streaming.{wrote-nothing, wrote-then, wrote-same}
@@ -88,9 +88,6 @@ module _ {text : List ℕ} {bound : ℕ} {home : Home} {start now : Option (List
   pub cut_off : WroteFrontOfOutput text bound start now
   cut_off = front_of_replies text bound u.turns s commands start now u.run u.wrote
 
-  pub within_work : OffersWithin text bound offered_first offered
-  within_work = (u.work, u.is_work, u.offers)
-
   -- the next command cannot be read
   unreadable : (e : ReadRefusal) → IsRefusedWith commands s.scope e → IsRefused text bound u.turns (refusal_line e)
   unreadable e refused = inl (s, commands, e, u.run, u.going, refused, refl)
@@ -141,7 +138,3 @@ module _ {text : List ℕ} {bound : ℕ} {home : Home} {start now : Option (List
   ends_known law new after status.Refused longer extends told asked =
       (r.before.turns, fault_line bound told.0, true, inr (unanswerable told.0 told.1, refl), longer_turns law home lists longer extends bound r.before.turns r.before.known)
   ends_known law new after _ longer extends told asked = tt
-
-  pub ends_lacking : (home : Home) (limit : ℕ) (longer : Lists) (how : Status) → IfStops (Some how) (λ shard. LacksAsked home limit longer (CommandAsks scope c.kind bound)) → IfFull how (λ shard. LackAsked home limit longer text bound)
-  ends_lacking home limit longer (status.StoreFull shard) lacks = (lacks.0, (r.before.turns, s, scope, c, comes r, lacks.1), lacks.2)
-  ends_lacking home limit longer _ lacks = tt

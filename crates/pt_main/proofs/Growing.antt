@@ -1,6 +1,6 @@
 -- Reading a command only adds nodes to the formula.
-use Rattle.std.proofs.Common.{◌≡◌, ℕ, ◌≤◌, List, [], ◌∷◌, ◌++◌, length, refl, ap, subst, sym, ◌∙◌, arith, length-append, ◌^◌, Bool, true, false, ◌==◌, if◌then◌else◌, nat_lt, nat_le, map, reverse, pos}
-use Rattle.std.specs.Prelude.{Result, Ok, Err, Option, Some, None, bytes_eq, codes, ℤ, neg_ℤ, ⊤}
+use Rattle.std.proofs.Common.{◌≡◌, ℕ, ◌≤◌, List, [], ◌∷◌, length, refl, ap, arith, length-append, ◌^◌, Bool, true, false, ◌==◌, if◌then◌else◌, nat_lt, nat_le, map, reverse, pos}
+use Rattle.std.specs.Prelude.{Ok, Option, Some, None, bytes_eq, codes, neg_ℤ, ⊤}
 use Rattle.std.specs.List.{list_all}
 use Rattle.pt_formula.specs.declared.node.Node.{Node}
 use Rattle.pt_formula.specs.declared.node.Node.TheVariants as node
@@ -8,7 +8,6 @@ use Rattle.pt_formula.specs.declared.node.Position.{Position}
 use Rattle.pt_syntax.specs.declared.sexpr.SExpr.{SExpr}
 use Rattle.pt_syntax.specs.declared.kinds.ReadKind.{ReadKind}
 use Rattle.pt_syntax.specs.declared.kinds.ReadKind.TheVariants.{Unsupported, Unknown, Syntax, Sort, Coefficient, Tracks, Logic}
-use Rattle.pt_syntax.specs.declared.kinds.ReadRefusal.{ReadRefusal}
 use Rattle.pt_syntax.specs.Lists.{Script, Done, Stops, Command as Reads_list}
 use Rattle.pt_read.specs.declared.command.Command.{Command}
 use Rattle.pt_read.specs.declared.command.CommandKind.{CommandKind}
@@ -27,7 +26,7 @@ use Rattle.pt_read.specs.Special
 use Rattle.pt_read.specs.Terms.{truth_of, form_of, nodes_now}
 use Rattle.pt_read.specs.Commands
 use Rattle.pt_read.specs.Reader.{IsNext}
-use Rattle.pt_read.proofs.FreeSteps.{Good, Nodes, front-length}
+use Rattle.pt_read.proofs.FreeSteps.{front-length}
 use Rattle.pt_read.proofs.FreeNodes.{IsWhole}
 use Rattle.pt_read.proofs.FreeWholeTerms.{good-term-within, good-variable}
 use Rattle.pt_read.proofs.Fitting.{then-inv, give-inv, require-inv, make-inv}

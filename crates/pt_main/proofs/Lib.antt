@@ -6,3 +6,4 @@ pub mod Underway
 pub mod Endings
 pub mod Growing
 pub mod Whole
+pub mod Rooms

@@ -1,8 +1,6 @@
 -- One command of a run: what was read, what stands after it.
-use Rattle.std.proofs.Common.{◌≡◌, ℕ, suc, ◌<◌, ◌^◌, arith, List, refl, inl, inr, ap, sym, subst, ◌∙◌, length}
+use Rattle.std.proofs.Common.{◌≡◌, ℕ, suc, ◌<◌, ◌^◌, arith, List, refl, inl, inr, ap, sym, subst, ◌∙◌}
 use Rattle.std.specs.Prelude.{Option, Some, None}
-use Rattle.pt_formula.specs.declared.node.Node.{Node}
-use Rattle.pt_formula.specs.declared.node.Position.{Position}
 use Rattle.pt_syntax.specs.declared.kinds.ReadRefusal.{ReadRefusal}
 use Rattle.pt_syntax.specs.Lists.{Script, Done, Stops, Command as Reads_list}
 use Rattle.pt_syntax.specs.Rest.{lists_left}
@@ -15,7 +13,7 @@ use Rattle.pt_read.specs.Scope.{State, after}
 use Rattle.pt_script.specs.declared.fault.SessionFault.{SessionFault}
 use Rattle.pt_script.specs.declared.fault.SessionFault.TheVariants as fault
 use Rattle.pt_script.specs.State.{Standing}
-use Rattle.pt_script.specs.Step.{IsAnswered, MayFail, StepFails, in_scope}
+use Rattle.pt_script.specs.Step.{IsAnswered, MayFail, StepFails}
 use Rattle.pt_main.specs.Parts.{HasLine, HasReadLine}
 
 -- nothing was left where no command is next

@@ -1,8 +1,8 @@
 -- What several writes appended.
-use Rattle.std.proofs.Common.{◌≡◌, ℕ, List, [], ◌++◌, refl, ap, sym, ◌∙◌, subst, append_assoc}
+use Rattle.std.proofs.Common.{ℕ, List, [], ◌++◌, refl, ap, sym, ◌∙◌, subst, append_assoc}
 use Rattle.std.specs.Prelude.{Option, Some, None}
 use Rattle.std.proofs.lemmas.List.{append-nil}
-use Rattle.pt_io.specs.Streams.{Wrote, WroteFront}
+use Rattle.pt_io.specs.Streams.{Wrote}
 
 pub wrote-nothing : (a : Option (List ℕ)) → Wrote a a []
 wrote-nothing None = tt

@@ -1,5 +1,5 @@
 -- From the words and the source to the text that a run answers.
-use Rattle.std.proofs.Common.{◌≡◌, ℕ, ◌+◌, ◌≤◌, ◌<◌, ◌^◌, List, [], ◌∷◌, ◌++◌, length, drop, ◌⊎◌, refl, inl, inr, ap, sym, subst, ◌∙◌, arith, length-append, true}
+use Rattle.std.proofs.Common.{◌≡◌, ℕ, ◌<◌, List, [], ◌∷◌, ◌++◌, length, drop, ◌⊎◌, refl, inl, inr, ap, sym, subst, ◌∙◌, arith, length-append, true}
 use Rattle.std.specs.Prelude.{Option, Some, None, IfSome, codes, decimal}
 use Rattle.std.proofs.lemmas.Fmt.{decimal_injective}
 use Rattle.pt_io.specs.Streams.{TookCount}
@@ -9,7 +9,7 @@ use Rattle.pt_main.specs.declared.status.Status.{Status}
 use Rattle.pt_main.specs.declared.status.Status.TheVariants as status
 use Rattle.pt_main.specs.Options.{GiveBound}
 use Rattle.pt_main.specs.Ending.{OfScript, IfWhole, IfFull, IsEnded, HasRoom, Answers, HasRead}
-use Rattle.pt_main.specs.Wanted.{KnowAnswered, OffersWithin}
+use Rattle.pt_main.specs.Wanted.{KnowAnswered}
 use Rattle.pt_main.specs.Parts.{EndsWithLine, IsOfText}
 use Rattle.pt_main.proofs.Streaming.{wrote-nothing, wrote-same}
 use Rattle.pt_main.proofs.Endings.{whole, front_of_line, front_of_nothing}

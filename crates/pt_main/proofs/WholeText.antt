@@ -18,8 +18,3 @@ read_past (Some text) new n h =
     let rest = h.2.0 in
     let behind : drop n text ≡ rest = ap (λ (l : List ℕ). drop n l) h.2.1 ∙ ap (λ (k : ℕ). drop k (bytes ++ rest)) (sym h.1) ∙ drop-append_seam bytes rest in
     h.2.2 ∙ ap Some (sym behind)
-
--- a fact holds at a success, since it holds
-pub on_success : {T E : Type 0} (r : Result T E) (P : Type 0) → P → OnOk r P
-on_success (Ok x) P h = h
-on_success (Err e) P h = tt

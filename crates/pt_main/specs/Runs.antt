@@ -1,6 +1,6 @@
 -- A run of a script: its commands are answered in order, each read after the one before was answered. A relation, since
 -- whether a formula has a solution is a fact and no test.
-use Rattle.std.specs.Prelude.{ℕ, ◌≤◌, ◌≡◌, Bool, true, false, List, [], ◌∷◌, length, Some, ⊤}
+use Rattle.std.specs.Prelude.{ℕ, ◌≤◌, ◌≡◌, true, false, List, [], ◌∷◌, length, Some, ⊤}
 use Rattle.pt_syntax.specs.Lists.{Script, script}
 use Rattle.pt_read.specs.declared.command.Command.{Command}
 use Rattle.pt_read.specs.Scope.{State}

@@ -1,6 +1,7 @@
 //! Scripts from bytes to bytes.
 #![tactic(auto)]
 
+pub mod laws;
 mod options;
 mod script;
 mod status;

@@ -1,4 +1,4 @@
-use Rattle.std.proofs.Common.{◌≡◌, ◌≤◌, arith, ap, sym, subst, ◌∙◌}
+use Rattle.std.proofs.Common.{arith, subst}
 use Rattle.std.specs.Prelude.{Some, None}
 use Rattle.pt_sets.proofs.ListLaws.{Extends-refl, Extends-trans}
 use Rattle.pt_read.specs.Reader.{left}

@@ -1,5 +1,3 @@
-use Rattle.std.proofs.Common.{◌≡◌}
-use Rattle.std.specs.Prelude.{Some, None, Result, Err}
 use Rattle.pt_main.proofs.Stepping.{may_fail}
 use Rattle.pt_main.proofs.Endings.{refused_by}
 use Rattle.pt_main.proofs.script.answer_command.Goals as goal

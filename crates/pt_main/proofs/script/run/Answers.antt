@@ -1,4 +1,4 @@
-use Rattle.std.proofs.Common.{◌≡◌, ◌≤◌, ℕ, List, map, string_bytes, arith}
+use Rattle.std.proofs.Common.{ℕ, List, map, string_bytes, arith}
 use Rattle.pt_io.specs.Streams.{Rose}
 use Rattle.pt_main.specs.Ending.{OfScript, Answers, WroteFrontOfOutput}
 use Rattle.pt_main.specs.Wanted.{LackAsked, KnowAnswered, OffersWithin}
