@@ -53,9 +53,7 @@ fn answer<S: Source, K: Sink, R: Threads>(
     sink: &mut K,
 ) -> Status {
     match LocalStore::new(alloc, SHARDS, MAX_CODES, Mixed) {
-        Ok((store, mut pass)) => run(
-            rt, alloc, words, source, sink, &Open, &store, &mut pass,
-        ),
+        Ok((store, mut pass)) => run(rt, alloc, words, source, sink, &Open, &store, &mut pass),
         Err(_) => Status::NoMemory,
     }
 }
