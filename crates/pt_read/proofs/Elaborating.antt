@@ -12,7 +12,7 @@ use Rattle.pt_read.specs.declared.command.Command.{Command}
 use Rattle.pt_read.specs.declared.command.Meaning.{Meaning}
 use Rattle.pt_read.specs.declared.command.Meaning.TheVariants.{Int, Bool as Truth}
 use Rattle.pt_read.specs.Elaboration.{Work}
-use Rattle.pt_read.specs.Scope.{State, Symbol, Assertion, Use, Constant_of, Defined, last_conjunction}
+use Rattle.pt_read.specs.Scope.{State, Symbol, Assertion, Use, Constant_of, Defined, conjunction, last_conjunction}
 use Rattle.pt_read.specs.Sound.{AreBelow, AreTermsBelow, IsMeaningIn, IsUseIn, IsEnvIn}
 use Rattle.pt_read.specs.Gives.{Gives, Grows}
 use Rattle.pt_read.specs.Lasting.{IsConstantUpTo, IsUseSound, IsSound}
