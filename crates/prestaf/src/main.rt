@@ -45,7 +45,7 @@ fn words(rt: &HostRuntime) -> Result<Vec<String>, Status> {
 }
 
 /// Answers the script of the source over a store of its own.
-fn answer<S: Source, K: Sink, R: Threads>(
+fn answer<S: Source, K: Sink, R: Threads + Sync>(
     rt: &R,
     alloc: Global,
     words: &[String],

@@ -34,7 +34,7 @@ use std::thread::Threads;
 /// pass extend the old ones, and at most the formula's length times the bound codes were offered.
 ///
 /// Besides the operations at the nodes the time is linear in the formula's length.
-pub fn evaluate<I: Interner, G: Gate, R: Threads>(
+pub fn evaluate<I: Interner, G: Gate, R: Threads + Sync>(
     rt: &R,
     alloc: Global,
     store: &I,
@@ -79,7 +79,7 @@ pub fn evaluate<I: Interner, G: Gate, R: Threads>(
 }
 
 /// The outcome of each node in the lists, evaluated list by list; of the others none yet.
-fn evaluate_rows<I: Interner, G: Gate, R: Threads>(
+fn evaluate_rows<I: Interner, G: Gate, R: Threads + Sync>(
     rt: &R,
     alloc: Global,
     store: &I,

@@ -2,7 +2,7 @@
 use pt_formula::NodeId;
 
 /// Is told when the work at a node starts and when it is done. It promises nothing.
-pub trait Gate {
+pub trait Gate: Sync {
     /// The work at the node is about to start.
     fn start(&self, node: NodeId);
 

@@ -15,7 +15,7 @@ use std::thread::Threads;
 
 /// The outcomes at nodes whose children are done with, in the order of the nodes. The gate is told before and after each
 /// node's work. Ends at the first node that the store refuses.
-pub(crate) fn evaluate_level<I: Interner, G: Gate, R: Threads>(
+pub(crate) fn evaluate_level<I: Interner, G: Gate, R: Threads + Sync>(
     rt: &R,
     alloc: Global,
     store: &I,

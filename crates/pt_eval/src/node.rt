@@ -33,7 +33,7 @@ fn handle_of(outcome: Outcome) -> Option<Handle>
 }
 
 /// The outcome at a node whose automaton was made or refused.
-fn settle<I: Interner, R: Threads>(
+fn settle<I: Interner, R: Threads + Sync>(
     rt: &R,
     alloc: Global,
     store: &I,
@@ -56,7 +56,7 @@ fn settle<I: Interner, R: Threads>(
     match made {
         Ok(table) => {
             let _valid = table.states();
-            match adopt(rt, store, alloc, pass, &table, 0) {
+            match adopt(rt, alloc, store, pass, &table, 0) {
                 Ok(handle) => Ok(Outcome::Known(handle)),
                 Err(fault) => Err(fault),
             }
@@ -67,7 +67,7 @@ fn settle<I: Interner, R: Threads>(
 }
 
 /// The outcome at a negation: the complement of the child's solutions, whose cost is within the bound since the child's is.
-fn evaluate_not<I: Interner, R: Threads>(
+fn evaluate_not<I: Interner, R: Threads + Sync>(
     rt: &R,
     alloc: Global,
     store: &I,
@@ -95,14 +95,14 @@ fn evaluate_not<I: Interner, R: Threads>(
     let Some(child) = handle_of(outcomes[a as usize]) else {
         return Ok(Outcome::LeftOut);
     };
-    match complement(rt, store, alloc, pass, child) {
+    match complement(rt, alloc, store, pass, child) {
         Ok(outside) => Ok(Outcome::Known(outside)),
         Err(fault) => Err(fault),
     }
 }
 
 /// The outcome at a node of two children.
-fn evaluate_binary<I: Interner, R: Threads>(
+fn evaluate_binary<I: Interner, R: Threads + Sync>(
     rt: &R,
     alloc: Global,
     store: &I,
@@ -140,7 +140,7 @@ fn evaluate_binary<I: Interner, R: Threads>(
 }
 
 /// The outcome at a quantifier. Where the variable is not free in the body, the solutions are the body's.
-fn evaluate_exists<I: Interner, R: Threads>(
+fn evaluate_exists<I: Interner, R: Threads + Sync>(
     rt: &R,
     alloc: Global,
     store: &I,
@@ -183,7 +183,7 @@ fn evaluate_exists<I: Interner, R: Threads>(
 /// or that a descendant is refused.
 ///
 /// Refuses for want of memory, and where a shard is full and the lists lack the solutions of the node, which is cheap.
-pub(crate) fn evaluate_node<I: Interner, R: Threads>(
+pub(crate) fn evaluate_node<I: Interner, R: Threads + Sync>(
     rt: &R,
     alloc: Global,
     store: &I,

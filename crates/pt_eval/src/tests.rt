@@ -73,7 +73,7 @@ impl Solved {
 }
 
 // The automata of the solutions of two roots, or the refusal.
-fn solve<R: Threads>(
+fn solve<R: Threads + Sync>(
     rt: &R,
     alloc: Global,
     formula: &Formula,
@@ -331,7 +331,7 @@ fn agrees(
 }
 
 // Whether the last two nodes of a made-up formula have the solutions that they should have.
-fn made_up_agrees<R: Threads>(rt: &R, alloc: Global, seed: u64) -> Result<bool, Fail> {
+fn made_up_agrees<R: Threads + Sync>(rt: &R, alloc: Global, seed: u64) -> Result<bool, Fail> {
     let mut formula = Formula::new(alloc)?;
     let mut state = seed;
     let mut last = 0;

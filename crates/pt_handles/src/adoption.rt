@@ -22,10 +22,10 @@ use std::thread::Threads;
 ///
 /// Refuses for want of memory, or where a shard has as many codes as it may hold and the lists lack the set.
 /// Linear in states times letters, but for reducing the table and finding the least codes of the components.
-pub fn adopt<R: Threads, I: Interner>(
+pub fn adopt<R: Threads + Sync, I: Interner>(
     rt: &R,
-    store: &I,
     alloc: Global,
+    store: &I,
     pass: &mut I::Pass,
     table: &Table,
     start: u32,
@@ -44,13 +44,13 @@ pub fn adopt<R: Threads, I: Interner>(
     };
     let _valid = table.states();
     let class = reduced.class(start);
-    adopt_reduced(store, alloc, pass, reduced.table(), class)
+    adopt_reduced(alloc, store, pass, reduced.table(), class)
 }
 
 /// A known handle with the set of a state of a reduced table.
 fn adopt_reduced<I: Interner>(
-    store: &I,
     alloc: Global,
+    store: &I,
     pass: &mut I::Pass,
     table: &Table,
     start: u32,
@@ -72,7 +72,7 @@ fn adopt_reduced<I: Interner>(
         Ok(marks) => marks,
         Err(_) => return Err(StoreFault::NoMemory),
     };
-    let targets = match adopt_parts(store, alloc, pass, table, &parts, &marks) {
+    let targets = match adopt_parts(alloc, store, pass, table, &parts, &marks) {
         Ok(targets) => targets,
         Err(fault) => return Err(fault),
     };
@@ -88,8 +88,8 @@ fn adopt_reduced<I: Interner>(
 
 /// Interns the parts of a reduced table whose states are reached. Their targets are then their exits.
 fn adopt_parts<I: Interner>(
-    store: &I,
     alloc: Global,
+    store: &I,
     pass: &mut I::Pass,
     table: &Table,
     parts: &[Vec<u32>],
@@ -110,7 +110,7 @@ fn adopt_parts<I: Interner>(
         Err(_) => return Err(StoreFault::NoMemory),
     };
     for i in 0..parts.len() {
-        if let Err(fault) = adopt_part(store, alloc, pass, table, parts, marks, i, &mut targets) {
+        if let Err(fault) = adopt_part(alloc, store, pass, table, parts, marks, i, &mut targets) {
             return Err(fault);
         }
     }
@@ -119,8 +119,8 @@ fn adopt_parts<I: Interner>(
 
 /// Interns a part of a reduced table whose states are reached, after the parts before it. The targets of its states are then their exits.
 fn adopt_part<I: Interner>(
-    store: &I,
     alloc: Global,
+    store: &I,
     pass: &mut I::Pass,
     table: &Table,
     parts: &[Vec<u32>],

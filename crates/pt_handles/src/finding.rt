@@ -43,7 +43,7 @@ impl<T: Drop> From<AllocFailed<T>> for Stop {
 }
 
 /// The known handle with the set of a state of a table. As `adopt`, but that codes are found and none is interned.
-pub(crate) fn find_set<R: Threads, P: Codes>(
+pub(crate) fn find_set<R: Threads + Sync, P: Codes>(
     rt: &R,
     alloc: Global,
     pass: &P,

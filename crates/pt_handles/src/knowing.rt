@@ -18,7 +18,7 @@ use std::thread::Threads;
 ///
 /// The automaton of the handle is read from the lists as it stands, and its set is sought among what is known: a handle is
 /// known exactly where that gives the handle itself. Costs what `expand` and `adopt` cost.
-pub fn knows<R: Threads, P: Codes>(
+pub fn knows<R: Threads + Sync, P: Codes>(
     rt: &R,
     alloc: Global,
     pass: &P,
@@ -34,7 +34,7 @@ pub fn knows<R: Threads, P: Codes>(
 }
 
 /// The known handle with the set that a handle has, whether that is known or not.
-fn find_handle<R: Threads, P: Codes>(
+fn find_handle<R: Threads + Sync, P: Codes>(
     rt: &R,
     alloc: Global,
     pass: &P,

@@ -49,7 +49,7 @@ fn number_table(alloc: Global, n: u32) -> Result<Table, Fail> {
 }
 
 /// The handle of {n}.
-fn adopt_number<R: Threads>(
+fn adopt_number<R: Threads + Sync>(
     rt: &R,
     alloc: Global,
     store: &LocalStore<OneShard>,
@@ -63,7 +63,7 @@ fn adopt_number<R: Threads>(
     if table.states() < 2 {
         return Err("start")?;
     }
-    Ok(adopt(rt, store, alloc, pass, &table, 1)?)
+    Ok(adopt(rt, alloc, store, pass, &table, 1)?)
 }
 
 #[test]
@@ -72,7 +72,7 @@ fn zero_stands_above_the_empty_set(rt: HostRuntime) -> Result<(), Fail> {
     let (store, mut pass) = LocalStore::new(alloc, 1, 9, OneShard)?;
     let table = table_of(alloc, &[0, 1, 1, 1], 0, 0)?;
     let _states = table.states();
-    let zero = adopt(&rt, &store, alloc, &mut pass, &table, 0)?;
+    let zero = adopt(&rt, alloc, &store, &mut pass, &table, 0)?;
     let place = Place { shard: 0, index: 1 };
     assert_eq!(rt;
         zero,

@@ -32,7 +32,7 @@ const LIMIT: usize = 4_194_304;
 ///
 /// Where the words are such, neither stream fails and no list of the pass comes to the store's limit, the answer is `Done`
 /// or `Refused`, or want of memory.
-pub fn run<S: Source, K: Sink, G: Gate, I: Interner, R: Threads>(
+pub fn run<S: Source, K: Sink, G: Gate, I: Interner, R: Threads + Sync>(
     rt: &R,
     alloc: Global,
     words: &[String],
@@ -80,7 +80,7 @@ const MAX_VARIABLES: u32 = 1 << 31;
 const MAX_DEPTH: u128 = 1 << 127;
 
 /// Answers the commands of a text that is not too long.
-fn answer<K: Sink, G: Gate, I: Interner, R: Threads>(
+fn answer<K: Sink, G: Gate, I: Interner, R: Threads + Sync>(
     rt: &R,
     alloc: Global,
     text: &[u8],
@@ -139,7 +139,7 @@ fn answer<K: Sink, G: Gate, I: Interner, R: Threads>(
 }
 
 /// Answers a command, and writes its reply or the line of its refusal. The run goes on, or it ends as the status says.
-fn answer_command<K: Sink, G: Gate, I: Interner, R: Threads>(
+fn answer_command<K: Sink, G: Gate, I: Interner, R: Threads + Sync>(
     rt: &R,
     alloc: Global,
     session: &mut Session,

@@ -66,10 +66,10 @@ pub fn combine_table<P: Codes>(
 /// `States` exactly where there are more pairs of residuals than the bound, `Full` only where that shard is at its limit
 /// and the lists lack the combined set. With each answer the lists extend the old ones, and at most as many codes as the
 /// bound were offered. The time is that of `combine_table` and of `adopt`.
-pub fn combine<R: Threads, I: Interner>(
+pub fn combine<R: Threads + Sync, I: Interner>(
     rt: &R,
-    store: &I,
     alloc: Global,
+    store: &I,
     pass: &mut I::Pass,
     op: Op,
     a: Handle,
@@ -104,7 +104,7 @@ pub fn combine<R: Threads, I: Interner>(
         Err(fault) => return Err(OpFault::from(fault)),
     };
     let _valid = table.states();
-    match adopt(rt, store, alloc, pass, &table, 0) {
+    match adopt(rt, alloc, store, pass, &table, 0) {
         Ok(handle) => Ok(handle),
         Err(fault) => Err(OpFault::from(fault)),
     }

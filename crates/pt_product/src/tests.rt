@@ -35,15 +35,15 @@ fn sign_table(alloc: Global, sign: u16) -> Result<Table, Fail>
 }
 
 /// Whether 0, -1 and 1 are in the combined set.
-fn combined_signs<R: Threads>(
+fn combined_signs<R: Threads + Sync>(
     rt: &R,
     alloc: Global,
     op: Op,
     bound: u32,
 ) -> Result<Result<[bool; 3], TableFault>, Fail> {
     let (store, mut pass) = LocalStore::new(alloc, 1, 100, OneShard)?;
-    let zero = adopt(rt, &store, alloc, &mut pass, &sign_table(alloc, 0)?, 0)?;
-    let minus = adopt(rt, &store, alloc, &mut pass, &sign_table(alloc, 1)?, 0)?;
+    let zero = adopt(rt, alloc, &store, &mut pass, &sign_table(alloc, 0)?, 0)?;
+    let minus = adopt(rt, alloc, &store, &mut pass, &sign_table(alloc, 1)?, 0)?;
     longer_lists_know();
     if bound == 0 || bound > 65_536 {
         return Err("bound")?;
@@ -62,15 +62,15 @@ fn combined_signs<R: Threads>(
 }
 
 /// Whether {0} and {-1} in common are the handle of no vector.
-fn common_is_none<R: Threads>(rt: &R, alloc: Global) -> Result<bool, Fail> {
+fn common_is_none<R: Threads + Sync>(rt: &R, alloc: Global) -> Result<bool, Fail> {
     let (store, mut pass) = LocalStore::new(alloc, 1, 100, OneShard)?;
-    let zero = adopt(rt, &store, alloc, &mut pass, &sign_table(alloc, 0)?, 0)?;
-    let minus = adopt(rt, &store, alloc, &mut pass, &sign_table(alloc, 1)?, 0)?;
+    let zero = adopt(rt, alloc, &store, &mut pass, &sign_table(alloc, 0)?, 0)?;
+    let minus = adopt(rt, alloc, &store, &mut pass, &sign_table(alloc, 1)?, 0)?;
     longer_lists_know();
     let common = combine(
         rt,
-        &store,
         alloc,
+        &store,
         &mut pass,
         Op::And,
         zero,
@@ -80,15 +80,20 @@ fn common_is_none<R: Threads>(rt: &R, alloc: Global) -> Result<bool, Fail> {
         1,
         4,
     )?;
-    let none = adopt(rt, &store, alloc, &mut pass, &sign_table(alloc, 0)?, 1)?;
+    let none = adopt(rt, alloc, &store, &mut pass, &sign_table(alloc, 0)?, 1)?;
     Ok(same(common, none))
 }
 
 /// Whether the first of three components is 0, and the last -1, by an operation over tracks with a gap.
-fn combined_apart<R: Threads>(rt: &R, alloc: Global, op: Op, z: [i128; 3]) -> Result<bool, Fail> {
+fn combined_apart<R: Threads + Sync>(
+    rt: &R,
+    alloc: Global,
+    op: Op,
+    z: [i128; 3],
+) -> Result<bool, Fail> {
     let (store, mut pass) = LocalStore::new(alloc, 1, 100, OneShard)?;
-    let zero = adopt(rt, &store, alloc, &mut pass, &sign_table(alloc, 0)?, 0)?;
-    let minus = adopt(rt, &store, alloc, &mut pass, &sign_table(alloc, 1)?, 0)?;
+    let zero = adopt(rt, alloc, &store, &mut pass, &sign_table(alloc, 0)?, 0)?;
+    let minus = adopt(rt, alloc, &store, &mut pass, &sign_table(alloc, 1)?, 0)?;
     longer_lists_know();
     let table = combine_table(alloc, &pass, op, zero, &[0], minus, &[2], 3, 4)?;
     let _valid = table.states();
@@ -96,7 +101,7 @@ fn combined_apart<R: Threads>(rt: &R, alloc: Global, op: Op, z: [i128; 3]) -> Re
 }
 
 /// Whether the vector without components is in the set of it and in no set, by an operation.
-fn combined_without_tracks<R: Threads>(rt: &R, alloc: Global, op: Op) -> Result<bool, Fail> {
+fn combined_without_tracks<R: Threads + Sync>(rt: &R, alloc: Global, op: Op) -> Result<bool, Fail> {
     let (store, mut pass) = LocalStore::new(alloc, 1, 100, OneShard)?;
     let mut builder = Builder::new(alloc, 0)?;
     let whole = builder.state()?;
@@ -108,8 +113,8 @@ fn combined_without_tracks<R: Threads>(rt: &R, alloc: Global, op: Op) -> Result<
     if table.states() < 2 || table.tracks() != 0 {
         return Err("table")?;
     }
-    let one = adopt(rt, &store, alloc, &mut pass, &table, 0)?;
-    let other = adopt(rt, &store, alloc, &mut pass, &table, 1)?;
+    let one = adopt(rt, alloc, &store, &mut pass, &table, 0)?;
+    let other = adopt(rt, alloc, &store, &mut pass, &table, 1)?;
     longer_lists_know();
     let combined = combine_table(alloc, &pass, op, one, &[], other, &[], 0, 1)?;
     let _valid = combined.states();
@@ -151,21 +156,21 @@ fn operations_have_their_members_and_their_cost(rt: HostRuntime) -> Result<(), F
 }
 
 /// Whether a number is outside {0}, or at state 1 outside the empty set.
-fn is_outside<R: Threads>(rt: &R, alloc: Global, state: u32, x: i128) -> Result<bool, Fail>
+fn is_outside<R: Threads + Sync>(rt: &R, alloc: Global, state: u32, x: i128) -> Result<bool, Fail>
     requires { state < 2 }
 {
     let (store, mut pass) = LocalStore::new(alloc, 1, 100, OneShard)?;
-    let set = adopt(rt, &store, alloc, &mut pass, &sign_table(alloc, 0)?, state)?;
-    let others = complement(rt, &store, alloc, &mut pass, set)?;
+    let set = adopt(rt, alloc, &store, &mut pass, &sign_table(alloc, 0)?, state)?;
+    let others = complement(rt, alloc, &store, &mut pass, set)?;
     let (table, start) = expand(alloc, &pass, others)?;
     Ok(table.member(start, &[x]))
 }
 
 /// Whether a pair is in {0} over the second of two tracks.
-fn is_second_zero<R: Threads>(rt: &R, alloc: Global, z: [i128; 2]) -> Result<bool, Fail> {
+fn is_second_zero<R: Threads + Sync>(rt: &R, alloc: Global, z: [i128; 2]) -> Result<bool, Fail> {
     let (store, mut pass) = LocalStore::new(alloc, 1, 100, OneShard)?;
-    let zero = adopt(rt, &store, alloc, &mut pass, &sign_table(alloc, 0)?, 0)?;
-    let pairs = widen(rt, &store, alloc, &mut pass, zero, &[1], 2)?;
+    let zero = adopt(rt, alloc, &store, &mut pass, &sign_table(alloc, 0)?, 0)?;
+    let pairs = widen(rt, alloc, &store, &mut pass, zero, &[1], 2)?;
     let (table, start) = expand(alloc, &pass, pairs)?;
     Ok(table.member(start, z.as_slice()))
 }

@@ -21,10 +21,10 @@ use std::thread::Threads;
 /// `Full` only where that shard is at its limit and the lists lack that set. With each answer the lists extend the old
 /// ones, and at most as many codes were offered as the set has residuals. Linear in the states that the handle reaches
 /// times letters, and then the time of `adopt`.
-pub fn complement<R: Threads, I: Interner>(
+pub fn complement<R: Threads + Sync, I: Interner>(
     rt: &R,
-    store: &I,
     alloc: Global,
+    store: &I,
     pass: &mut I::Pass,
     a: Handle,
 ) -> Result<Handle, StoreFault>
@@ -41,7 +41,7 @@ pub fn complement<R: Threads, I: Interner>(
         Err(_) => return Err(StoreFault::NoMemory),
     };
     match turned_table(alloc, &table) {
-        Ok(turned) => adopt(rt, store, alloc, pass, &turned, start),
+        Ok(turned) => adopt(rt, alloc, store, pass, &turned, start),
         Err(_) => Err(StoreFault::NoMemory),
     }
 }
@@ -69,10 +69,10 @@ fn turned_outputs(alloc: Global, outputs: &[bool]) -> Result<Vec<bool>, AllocErr
 /// `Full` only where that shard is at its limit and the lists lack that set. With each answer the lists extend the old
 /// ones, and at most as many codes were offered as the set has residuals. Linear in the states that the handle reaches
 /// times the letters of the result, and then the time of `adopt`.
-pub fn widen<R: Threads, I: Interner>(
+pub fn widen<R: Threads + Sync, I: Interner>(
     rt: &R,
-    store: &I,
     alloc: Global,
+    store: &I,
     pass: &mut I::Pass,
     a: Handle,
     map: &[u8],
@@ -97,7 +97,7 @@ pub fn widen<R: Threads, I: Interner>(
         Err(_) => return Err(StoreFault::NoMemory),
     };
     match wide_table(alloc, &table, &side) {
-        Ok(wide) => adopt(rt, store, alloc, pass, &wide, start),
+        Ok(wide) => adopt(rt, alloc, store, pass, &wide, start),
         Err(_) => Err(StoreFault::NoMemory),
     }
 }

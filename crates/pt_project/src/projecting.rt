@@ -57,10 +57,10 @@ pub fn exists_table<P: Codes>(
 /// `States` exactly where there are more families of residuals than the bound, `Full` only where that shard is at its
 /// limit and the lists lack the projection. With each answer the lists extend the old ones, and at most as many codes as
 /// the bound were offered. The time is that of `exists_table` and of `adopt`.
-pub fn exists<R: Threads, I: Interner>(
+pub fn exists<R: Threads + Sync, I: Interner>(
     rt: &R,
-    store: &I,
     alloc: Global,
+    store: &I,
     pass: &mut I::Pass,
     a: Handle,
     track: u32,
@@ -84,7 +84,7 @@ pub fn exists<R: Threads, I: Interner>(
         Err(fault) => return Err(OpFault::from(fault)),
     };
     let _valid = table.states();
-    match adopt(rt, store, alloc, pass, &table, 0) {
+    match adopt(rt, alloc, store, pass, &table, 0) {
         Ok(handle) => Ok(handle),
         Err(fault) => Err(OpFault::from(fault)),
     }

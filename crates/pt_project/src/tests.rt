@@ -68,7 +68,7 @@ fn vector_table(alloc: Global, letters: &[u16]) -> Result<Table, Fail>
 }
 
 /// The projection of the set of state 0.
-fn projection<R: Threads>(
+fn projection<R: Threads + Sync>(
     rt: &R,
     alloc: Global,
     table: &Table,
@@ -82,7 +82,7 @@ fn projection<R: Threads>(
         return Err("track or bound")?;
     }
     let (store, mut pass) = LocalStore::new(alloc, 1, 1000, OneShard)?;
-    let set = adopt(rt, &store, alloc, &mut pass, table, 0)?;
+    let set = adopt(rt, alloc, &store, &mut pass, table, 0)?;
     Ok(exists_table(alloc, &pass, set, track, bound))
 }
 
@@ -118,7 +118,7 @@ fn agrees(table: &Table, projected: &Table, track: u32) -> bool
 }
 
 /// Whether both projections agree with the table.
-fn both_agree<R: Threads>(rt: &R, alloc: Global, table: &Table) -> Result<bool, Fail>
+fn both_agree<R: Threads + Sync>(rt: &R, alloc: Global, table: &Table) -> Result<bool, Fail>
     requires states { 0 < table.now.states }
     requires tracks { table.now.tracks ≡ 2 }
 {
@@ -157,7 +157,11 @@ fn projections_have_the_vectors_to_which_a_number_can_be_added(
 }
 
 /// The states of the projection of {(0, 5)}.
-fn cost<R: Threads>(rt: &R, alloc: Global, bound: u32) -> Result<Result<u32, TableFault>, Fail> {
+fn cost<R: Threads + Sync>(
+    rt: &R,
+    alloc: Global,
+    bound: u32,
+) -> Result<Result<u32, TableFault>, Fail> {
     let table = vector_table(alloc, &[2, 0, 2])?;
     match projection(rt, alloc, &table, 1, bound)? {
         Ok(projected) => Ok(Ok(projected.states())),
@@ -178,13 +182,17 @@ fn the_cost_of_a_projection_is_exact(rt: HostRuntime) -> Result<(), Fail> {
 }
 
 /// Whether {(0, y)}, y given by letters, is projected to {0} as a known handle, and that to the one vector without components.
-fn projects_to_zero<R: Threads>(rt: &R, alloc: Global, letters: &[u16]) -> Result<bool, Fail> {
+fn projects_to_zero<R: Threads + Sync>(
+    rt: &R,
+    alloc: Global,
+    letters: &[u16],
+) -> Result<bool, Fail> {
     let table = vector_table(alloc, letters)?;
     let (store, mut pass) = LocalStore::new(alloc, 1, 1000, OneShard)?;
-    let set = adopt(rt, &store, alloc, &mut pass, &table, 0)?;
-    let zero = exists(rt, &store, alloc, &mut pass, set, 1, 100)?;
+    let set = adopt(rt, alloc, &store, &mut pass, &table, 0)?;
+    let zero = exists(rt, alloc, &store, &mut pass, set, 1, 100)?;
     let (zeros, first) = expand(alloc, &pass, zero)?;
-    let whole = exists(rt, &store, alloc, &mut pass, zero, 0, 100)?;
+    let whole = exists(rt, alloc, &store, &mut pass, zero, 0, 100)?;
     let (all, only) = expand(alloc, &pass, whole)?;
     Ok(
         zeros.states() == 2

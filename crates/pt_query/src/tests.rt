@@ -88,10 +88,10 @@ struct Told {
     least: Result<Option<i128>, u32>,
 }
 
-fn ask<R: Threads>(rt: &R, alloc: Global, table: &Table) -> Result<Told, Fail> {
+fn ask<R: Threads + Sync>(rt: &R, alloc: Global, table: &Table) -> Result<Told, Fail> {
     let _valid = table.states();
     let (store, mut pass) = LocalStore::new(alloc, 1, 1000, OneShard)?;
-    let set = adopt(rt, &store, alloc, &mut pass, table, 0)?;
+    let set = adopt(rt, alloc, &store, &mut pass, table, 0)?;
     let least = match least_member(alloc, &pass, set) {
         Ok(None) => Ok(None),
         Ok(Some(z)) => Ok(z.first().copied()),
@@ -107,7 +107,7 @@ fn ask<R: Threads>(rt: &R, alloc: Global, table: &Table) -> Result<Told, Fail> {
 }
 
 /// Whether the set of state 0 of the first table is included in that of the second.
-fn included<R: Threads>(
+fn included<R: Threads + Sync>(
     rt: &R,
     alloc: Global,
     first: &Table,
@@ -118,8 +118,8 @@ fn included<R: Threads>(
         return Err("tracks")?;
     }
     let (store, mut pass) = LocalStore::new(alloc, 1, 1000, OneShard)?;
-    let a = adopt(rt, &store, alloc, &mut pass, first, 0)?;
-    let b = adopt(rt, &store, alloc, &mut pass, second, 0)?;
+    let a = adopt(rt, alloc, &store, &mut pass, first, 0)?;
+    let b = adopt(rt, alloc, &store, &mut pass, second, 0)?;
     longer_lists_know();
     if bound == 0 || bound > 65_536 {
         return Err("bound")?;
@@ -128,12 +128,12 @@ fn included<R: Threads>(
 }
 
 /// Whether `contains` tells the members among small numbers as the table does.
-fn contains_small<R: Threads>(rt: &R, alloc: Global, table: &Table) -> Result<bool, Fail> {
+fn contains_small<R: Threads + Sync>(rt: &R, alloc: Global, table: &Table) -> Result<bool, Fail> {
     if table.tracks() != 1 {
         return Err("tracks")?;
     }
     let (store, mut pass) = LocalStore::new(alloc, 1, 1000, OneShard)?;
-    let set = adopt(rt, &store, alloc, &mut pass, table, 0)?;
+    let set = adopt(rt, alloc, &store, &mut pass, table, 0)?;
     for i in 0..80u8 {
         let x = i128::from(i) - 40;
         if contains(&pass, set, &[x]) != table.member(0, &[x]) {
@@ -193,13 +193,18 @@ fn next_small(table: &Table, after: Option<i128>) -> Option<i128> {
 }
 
 /// Whether the first k members, or all, are those that the search through small numbers finds one after the other.
-fn lists_small<R: Threads>(rt: &R, alloc: Global, table: &Table, k: u32) -> Result<bool, Fail> {
+fn lists_small<R: Threads + Sync>(
+    rt: &R,
+    alloc: Global,
+    table: &Table,
+    k: u32,
+) -> Result<bool, Fail> {
     let _valid = table.states();
     if k > 1000 {
         return Err("members")?;
     }
     let (store, mut pass) = LocalStore::new(alloc, 1, 1000, OneShard)?;
-    let set = adopt(rt, &store, alloc, &mut pass, table, 0)?;
+    let set = adopt(rt, alloc, &store, &mut pass, table, 0)?;
     let Ok(members) = list(alloc, &pass, set, k) else {
         return Err("list")?;
     };
@@ -215,7 +220,7 @@ fn lists_small<R: Threads>(rt: &R, alloc: Global, table: &Table, k: u32) -> Resu
 }
 
 /// How many members are listed, or how many letters the first wide one has.
-fn listed<R: Threads>(
+fn listed<R: Threads + Sync>(
     rt: &R,
     alloc: Global,
     table: &Table,
@@ -226,7 +231,7 @@ fn listed<R: Threads>(
         return Err("members")?;
     }
     let (store, mut pass) = LocalStore::new(alloc, 1, 1000, OneShard)?;
-    let set = adopt(rt, &store, alloc, &mut pass, table, 0)?;
+    let set = adopt(rt, alloc, &store, &mut pass, table, 0)?;
     match list(alloc, &pass, set, k) {
         Ok(members) => Ok(Ok(members.len())),
         Err(WitnessFault::Wide { letters }) => Ok(Err(letters)),

@@ -49,7 +49,7 @@ impl Reduced {
 /// By rounds (Moore, "Gedanken-experiments on sequential machines", 1956): classes begin with equal outputs and are
 /// split by the classes of successors until nothing changes. There are at most as many rounds as classes, each a pass
 /// over the edges that numbers pairs through a hash map. Memory is linear in states times letters. `rt` is not used yet.
-pub fn reduce<R: Threads>(_rt: &R, alloc: Global, table: &Table) -> Result<Reduced, NoMemory>
+pub fn reduce<R: Threads + Sync>(_rt: &R, alloc: Global, table: &Table) -> Result<Reduced, NoMemory>
     ensures reduction { IfOk result (IsReductionOf table.now) }
     ensures reduced { IfOk result (λ r. IsReduced r.table) }
 {
@@ -171,7 +171,7 @@ mod tests {
 
     /// The number of classes, or `None` where two states have one class and are told apart, or the other way round, or
     /// where a class has no state.
-    fn classes_of<R: Threads>(
+    fn classes_of<R: Threads + Sync>(
         rt: &R,
         alloc: Global,
         tracks: u32,

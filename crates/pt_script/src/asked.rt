@@ -23,7 +23,7 @@ use std::alloc::Global;
 use std::thread::Threads;
 
 /// Known handles of the solutions of the roots. What is refused names the place of the refused node.
-pub(crate) fn evaluate_roots<I: Interner, G: Gate, R: Threads>(
+pub(crate) fn evaluate_roots<I: Interner, G: Gate, R: Threads + Sync>(
     rt: &R,
     alloc: Global,
     store: &I,
@@ -65,7 +65,7 @@ pub(crate) fn evaluate_roots<I: Interner, G: Gate, R: Threads>(
 
 /// A handle of the set of a predicate over its parameters, from one of its body's solutions. Where the body has all of
 /// the parameters as free variables, it is the same handle.
-pub(crate) fn widen_body<I: Interner, R: Threads>(
+pub(crate) fn widen_body<I: Interner, R: Threads + Sync>(
     rt: &R,
     alloc: Global,
     store: &I,
@@ -97,7 +97,7 @@ pub(crate) fn widen_body<I: Interner, R: Threads>(
     let Ok(map) = track_map(alloc, inner, outer) else {
         return Err(SessionFault::NoMemory);
     };
-    match widen(rt, store, alloc, pass, body, &map, outer.len() as u32) {
+    match widen(rt, alloc, store, pass, body, &map, outer.len() as u32) {
         Ok(handle) => Ok(handle),
         Err(StoreFault::Full { shard, count }) => Err(SessionFault::Full { shard, count }),
         Err(StoreFault::NoMemory) => Err(SessionFault::NoMemory),
@@ -105,7 +105,7 @@ pub(crate) fn widen_body<I: Interner, R: Threads>(
 }
 
 /// A handle of the set of a predicate.
-pub(crate) fn one_set<I: Interner, G: Gate, R: Threads>(
+pub(crate) fn one_set<I: Interner, G: Gate, R: Threads + Sync>(
     rt: &R,
     alloc: Global,
     store: &I,
@@ -140,7 +140,7 @@ pub(crate) fn one_set<I: Interner, G: Gate, R: Threads>(
 }
 
 /// Handles of the sets of two predicates.
-pub(crate) fn two_sets<I: Interner, G: Gate, R: Threads>(
+pub(crate) fn two_sets<I: Interner, G: Gate, R: Threads + Sync>(
     rt: &R,
     alloc: Global,
     store: &I,
@@ -179,7 +179,7 @@ pub(crate) fn two_sets<I: Interner, G: Gate, R: Threads>(
 }
 
 /// Handles of the sets of a command's predicates, in order, which the pass knows then.
-pub(crate) fn asked_sets<I: Interner, G: Gate, R: Threads>(
+pub(crate) fn asked_sets<I: Interner, G: Gate, R: Threads + Sync>(
     rt: &R,
     alloc: Global,
     store: &I,

@@ -115,7 +115,7 @@ impl Session {
 
     /// The reply of a command, and what stands after it. After a fault the session answers that fault for ever. Linear in
     /// the work of the command's evaluation and queries; a command that asks for no set takes no more than its own size.
-    pub fn execute<I: Interner, G: Gate, R: Threads>(
+    pub fn execute<I: Interner, G: Gate, R: Threads + Sync>(
         &mut self,
         rt: &R,
         alloc: Global,
@@ -156,7 +156,7 @@ impl Session {
     }
 
     /// The bytes of the reply. What is refused changes nothing.
-    fn answer<I: Interner, G: Gate, R: Threads>(
+    fn answer<I: Interner, G: Gate, R: Threads + Sync>(
         &mut self,
         rt: &R,
         alloc: Global,
@@ -214,7 +214,7 @@ impl Session {
     }
 
     /// `sat` with the least solution as the model, or `unsat`.
-    fn check_sat<I: Interner, G: Gate, R: Threads>(
+    fn check_sat<I: Interner, G: Gate, R: Threads + Sync>(
         &mut self,
         rt: &R,
         alloc: Global,
@@ -258,7 +258,7 @@ impl Session {
     }
 
     /// What a set command says.
-    fn query<I: Interner, G: Gate, R: Threads>(
+    fn query<I: Interner, G: Gate, R: Threads + Sync>(
         &self,
         rt: &R,
         alloc: Global,
