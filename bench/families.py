@@ -187,12 +187,62 @@ def drill(depth):
         yield Instance(question("xy", formula(depth, ["x", "y"])), None)
 
 
+def rings(modulus):
+    """One residue class: its automaton is one ring of states that look nearly all alike."""
+    yield Instance(question("x", is_class(1, modulus)), "sat")
+    yield Instance(question("x", is_class(1, modulus), is_class(0, modulus)), "unsat")
+
+
+def signs(modulus):
+    """A residue class of x + 2y with a bound on x, and then on both: rings in which all states look alike."""
+    of_sum = f"((_ divisible {modulus}) (+ x (* 2 y) 1))"
+    yield Instance(question("xy", of_sum, "(> x 0)"), "sat")
+    yield Instance(question("xy", of_sum, "(> x 0)", "(> y 0)"), "sat")
+
+
+def some_multiple(form, factor, name="k"):
+    return f"(exists (({name} Int)) (= {form} (* {factor} {name})))"
+
+
+def dyadic(n):
+    """The classes 2^k - 1 modulo 2^(k+1) for k below n, and the class that is left, hold each integer; without the last they do not."""
+    classes = [some_multiple(f"(- x {2 ** k - 1})", 2 ** (k + 1)) for k in range(n)]
+    last = some_multiple(f"(- x {2 ** n - 1})", 2 ** n)
+    yield Instance(question("x", f"(not (or {' '.join(classes + [last])}))"), "unsat")
+    yield Instance(question("x", f"(not (or {' '.join(classes)}))"), "sat")
+
+
+def nested(n):
+    """Multiples of 2 of multiples of 3 and so on up to n, and the multiples of the product; then of its double."""
+    chain, product = "true", 1
+    for factor in range(n, 1, -1):
+        outer = f"m{factor - 1}" if factor > 2 else "x"
+        chain = f"(exists ((m{factor} Int)) (and (= {outer} (* {factor} m{factor})) {chain}))"
+        product *= factor
+    for factor, expected in ((product, "unsat"), (2 * product, "sat")):
+        own = text(f"(define-fun p ((x Int)) Bool {chain})",
+                   f"(define-fun q ((x Int)) Bool {some_multiple('x', factor)})", "(set-equal p q)")
+        yield Instance(question("x", f"(not (= {chain} {some_multiple('x', factor)}))"), expected, own=own)
+
+
+def diagonals(n):
+    """Where x + y and x - y are multiples of 2^n, x is one of 2^(n-1), and need not be one of 2^n."""
+    both = [some_multiple("(+ x y)", 2 ** n), some_multiple("(- x y)", 2 ** n)]
+    for power, expected in ((n - 1, "unsat"), (n, "sat")):
+        yield Instance(question("xy", *both, f"(not {some_multiple('x', 2 ** power)})"), expected)
+
+
 FAMILIES = {
     coins2: (10, 20, 40, 80, 160),
     coins3: (5, 10, 20, 40, 80),
     alternation: (1, 2, 4, 8, 16),
     counters: (4, 8, 16, 32),
     chain: (2, 3, 4, 5, 6),
+    rings: (251, 1021, 4093, 16381, 65521),
+    signs: (251, 509, 1021, 2039, 4091),
+    dyadic: (4, 8, 12, 16),
+    nested: (4, 5, 6, 7, 8),
+    diagonals: (4, 8, 12, 16),
     covers: (2, 4, 6, 8, 10),
     knapsack: (2, 4, 6, 8),
     bounded: (6, 8, 10, 12, 14, 16),

@@ -153,7 +153,7 @@ def judge(results):
 
 def main():
     options = argparse.ArgumentParser(description=__doc__)
-    options.add_argument("--program", default=str(ROOT / "crates/prestaf/out/prestaf"))
+    options.add_argument("--program", default=str(ROOT / "build/prestaf"))
     options.add_argument("--states", type=int, default=65536, help="the state bound of prestaf")
     options.add_argument("--limit", type=float, default=5.0, help="seconds for one run")
     options.add_argument("--family", action="append", help="only this family; may stand more than once")
