@@ -15,7 +15,7 @@ pub struct RealSource<R> {
 impl<R: Read> RealSource<R> {
     /// A source that has not failed. Takes no memory.
     pub fn new(reader: R) -> Self
-        ensures { result ≡ record { reader = reader; faults = 0 } }
+        ensures { ⟦<RealSource<R> as Source>⟧.faults result ≡ 0 }
     {
         RealSource { reader, faults: 0 }
     }
@@ -51,7 +51,7 @@ pub struct RealSink<W> {
 impl<W: Write> RealSink<W> {
     /// A sink that has not failed. Takes no memory.
     pub fn new(writer: W) -> Self
-        ensures { result ≡ record { writer = writer; faults = 0 } }
+        ensures { ⟦<RealSink<W> as Sink>⟧.faults result ≡ 0 }
     {
         RealSink { writer, faults: 0 }
     }
