@@ -81,10 +81,7 @@ fn add(found: &mut IndexSet<Parameter>, parameter: Parameter, bound: u32) -> Res
     ensures within { OnOk result (length found.new.keys ≤ bound) }
     ensures full { IfErr result (IsFull parameter found.old.keys bound) }
 {
-    let place = match found.insert_full(parameter) {
-        Ok((place, _)) => place,
-        Err(_) => return Err(AtomFault::NoMemory),
-    };
+    let (place, _) = found.insert_full(parameter)?;
     if bound as usize <= place {
         return Err(AtomFault::States { bound });
     }
@@ -131,10 +128,7 @@ fn add_edges(
             Ok(place) => place,
             Err(fault) => return Err(fault),
         };
-        match edges.push(place) {
-            Ok(()) => {}
-            Err(_) => return Err(AtomFault::NoMemory),
-        }
+        edges.push(place)?;
     }
     Ok(())
 }
@@ -168,15 +162,9 @@ fn add_row(
 {
     let parameter = search.found[q];
     let coefficients = normal.coefficients.as_slice();
-    match refresh(alloc, coefficients, parameter.kind, &mut search.sums) {
-        Ok(()) => {}
-        Err(_) => return Err(AtomFault::NoMemory),
-    }
+    refresh(alloc, coefficients, parameter.kind, &mut search.sums)?;
     let sums = search.sums.values.as_slice();
-    match add_outputs(&mut search.outputs, parameter, sums) {
-        Ok(()) => {}
-        Err(_) => return Err(AtomFault::NoMemory),
-    }
+    add_outputs(&mut search.outputs, parameter, sums)?;
     add_edges(
         normal,
         &mut search.found,
@@ -216,10 +204,7 @@ pub fn reach_all(alloc: Global, normal: &Normal, bound: u32) -> Result<Search, A
     ensures done { IfOk result (λ s. IsSearch normal.now bound (length s.found.keys) s.found.keys s.edges.items s.outputs.items) }
     ensures cause { IfErr result (IsCause normal.now bound) }
 {
-    let mut search = match start(alloc, normal) {
-        Ok(search) => search,
-        Err(_) => return Err(AtomFault::NoMemory),
-    };
+    let mut search = start(alloc, normal)?;
     let mut q = 0;
     'rows: while q < search.found.len() {
         match add_row(alloc, normal, &mut search, q, bound) {

@@ -138,6 +138,10 @@ fn tables_stop_at_the_bound(rt: HostRuntime) -> Result<(), Fail> {
             );
         }
     }
+    let thousand = form_of(rt.alloc(), Kind::Eq, &[1], 1000)?;
+    assert!(rt; atom_table(rt.alloc(), &thousand, 12)?.states() == 12);
+    let refused = atom_table(rt.alloc(), &thousand, 11).err();
+    assert!(rt; refused == Some(AtomFault::States { bound: 11 }));
     let many = form_of(rt.alloc(), Kind::Le, &[40001, 40000], 0)?;
     let refused = atom_table(rt.alloc(), &many, 16384).err();
     assert!(rt; refused == Some(AtomFault::States { bound: 16384 }));

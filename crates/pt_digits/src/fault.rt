@@ -1,3 +1,6 @@
+ghost use Rattle.std.specs.Prelude.{◌≡◌};
+ghost use Rattle.pt_digits.specs.declared.fault.DigitFault.TheVariants as digit_fault;
+
 use std::alloc::{AllocError, AllocFailed};
 
 /// There was no memory. What the call was given is as it was.
@@ -22,4 +25,12 @@ pub enum DigitFault {
     /// A component is outside 128 bits.
     Wide,
     NoMemory,
+}
+
+impl From<NoMemory> for DigitFault {
+    ghost from_gives = { λ _ fault. fault ≡ digit_fault.NoMemory };
+
+    fn from(_error: NoMemory) -> Self {
+        DigitFault::NoMemory
+    }
 }

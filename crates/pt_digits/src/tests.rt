@@ -1,6 +1,6 @@
 // Worked words and values.
-ghost use Rattle.std.specs.Prelude.{◌≤◌, length};
-ghost use Rattle.pt_sets.specs.Words.{IsWord};
+ghost use Rattle.std.specs.Prelude.{◌≤◌, length, IsTrue};
+ghost use Rattle.pt_sets.specs.Words.{IsWord, AreLetters};
 
 use crate::*;
 use std::alloc::Global;
@@ -17,6 +17,12 @@ fn has_value(alloc: Global, word: &[u16], z: &[i128]) -> Result<bool, DigitFault
     requires few { length z.now ≤ 10 }
 {
     Ok(decode(alloc, word, z.len() as u32)?.as_slice() == z)
+}
+
+fn are_bits(word: &[u16]) -> bool
+    ensures { IsTrue result → AreLetters 1 word.now }
+{
+    word.iter().all(|a| *a < 2)
 }
 
 #[test]
@@ -45,6 +51,10 @@ fn values_end_at_128_bits(rt: HostRuntime) -> Result<(), Fail> {
     let mut word = encode(alloc, &[i128::MIN])?;
     assert_eq!(rt; word.len(), 128);
     assert!(rt; has_value(alloc, word.as_slice(), &[i128::MIN])?);
+    let mut by_hand = vec![in alloc; 0u16; 127]?;
+    by_hand.push(1)?;
+    assert!(rt; are_bits(by_hand.as_slice()) && by_hand.as_slice() == word.as_slice());
+    assert!(rt; has_value(alloc, by_hand.as_slice(), &[i128::MIN])?);
     word.insert(0, 0)?;
     assert!(rt; decode(alloc, word.as_slice(), 1) == Err(DigitFault::Wide));
     Ok(())

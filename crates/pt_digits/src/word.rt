@@ -35,9 +35,7 @@ pub fn decode(alloc: Global, word: &[u16], tracks: u32) -> Result<Vec<i128>, Dig
     ensures err { IfErr result (IsCauseOf (value tracks word.now)) }
 {
     let last = word.len() - 1;
-    let Ok(mut z) = signs_of(alloc, word[last], tracks) else {
-        return Err(DigitFault::NoMemory);
-    };
+    let mut z = signs_of(alloc, word[last], tracks)?;
     for i in (0..last).rev() {
         if let Err(fault) = put_in_front(&mut z, word[i]) {
             return Err(fault);

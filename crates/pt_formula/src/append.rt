@@ -36,8 +36,6 @@ pub fn append(
         variables,
         position: at,
     };
-    if entries.push(entry).is_err() {
-        return Err(FormulaFault::NoMemory);
-    }
+    entries.push(entry)?;
     Ok(id)
 }

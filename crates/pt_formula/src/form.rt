@@ -1,10 +1,11 @@
 ghost use Rattle.std.specs.Prelude.{◌≡◌, ◌<◌, ◌≤◌, ◌+◌, ◌⊎◌, ◌+ℤ◌, ◌*ℤ◌, ◌++◌, [], length, drop, true, false, MatchOption};
 ghost use Rattle.pt_formula.specs.Forms.{AreTerms};
 ghost use Rattle.pt_formula.specs.Sums.{IsForm, Checked, form_sum, form_difference, form_scale, sum_terms, scale_terms, term_list, fits, GivesTerms, combined_form};
+ghost use Rattle.pt_formula.specs.declared.form.FormFault.TheVariants as form_fault;
 
 use crate::terms::Terms;
 use crate::{MAX_TRACKS, Var};
-use std::alloc::Global;
+use std::alloc::{AllocFailed, Global};
 use std::cmp::Ordering;
 
 /// A linear form: the sum of its terms and the constant. The variables of the terms increase, no coefficient is 0, and there are at most
@@ -23,6 +24,14 @@ pub enum FormFault {
     /// That is not so, and there are more than `MAX_TRACKS` terms.
     Tracks,
     NoMemory,
+}
+
+impl<T: Drop> From<AllocFailed<T>> for FormFault {
+    ghost from_gives = { λ _ fault. fault ≡ form_fault.NoMemory };
+
+    fn from(_failed: AllocFailed<T>) -> Self {
+        FormFault::NoMemory
+    }
 }
 
 /// The next term of a sum, and the places from which the two lists go on.
@@ -120,9 +129,7 @@ fn merged(alloc: Global, a: &[(Var, i64)], by: i64, b: &[(Var, i64)]) -> Result<
             let Some(coefficient) = narrowed(next.coefficient) else {
                 return Err(FormFault::Coefficient);
             };
-            if items.push((next.variable, coefficient)).is_err() {
-                return Err(FormFault::NoMemory);
-            }
+            items.push((next.variable, coefficient))?;
         }
         i = next.left;
         j = next.right;

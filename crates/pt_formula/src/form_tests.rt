@@ -54,6 +54,8 @@ fn numbers_of_more_than_64_bits_are_refused(rt: HostRuntime) -> Result<(), Fail>
     let low = form(alloc, &[(2, MIN)], MIN)?;
     let one = form(alloc, &[], 1)?;
     let x = form(alloc, &[(2, 1)], 0)?;
+    let greatest = form(alloc, &[], MAX)?;
+    assert!(rt; sum(alloc, &greatest, &one).err() == coefficient);
     assert!(rt; sum(alloc, &high, &one).err() == coefficient);
     assert!(rt; sum(alloc, &high, &x).err() == coefficient);
     assert!(rt; difference(alloc, &low, &one).err() == coefficient);

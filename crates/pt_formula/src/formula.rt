@@ -57,10 +57,16 @@ impl Formula {
             variables: Variables::none(alloc),
             position: Position { line: 1, column: 1 },
         };
-        if entries.push(entry).is_err() {
-            return Err(NoMemory);
-        }
+        entries.push(entry)?;
         Ok(Formula { entries })
+    }
+
+    /// A law, which does nothing: each formula is well formed.
+    pub fn is_formula(&self)
+        ensures { IsFormula self.now }
+    {
+        // The invariant of a type is known where one of its fields is used.
+        let _ = &self.entries;
     }
 
     /// How many nodes there are.
@@ -123,12 +129,8 @@ impl Formula {
         requires kind { IsModulus kind }
         ensures { Builds result self.old self.new (made (Atom kind terms.now constant) at self.old) }
     {
-        let Ok(variables) = Variables::of_terms(alloc, terms) else {
-            return Err(FormulaFault::NoMemory);
-        };
-        let Ok(terms) = Terms::copy_of(alloc, terms) else {
-            return Err(FormulaFault::NoMemory);
-        };
+        let variables = Variables::of_terms(alloc, terms)?;
+        let terms = Terms::copy_of(alloc, terms)?;
         let node = Node::Atom {
             kind,
             terms,
@@ -142,9 +144,7 @@ impl Formula {
         requires { a < length self.old }
         ensures { Builds result self.old self.new (made (Not a) at self.old) }
     {
-        let Ok(variables) = Variables::copy_of(alloc, self.variables(a)) else {
-            return Err(FormulaFault::NoMemory);
-        };
+        let variables = Variables::copy_of(alloc, self.variables(a))?;
         append(&mut self.entries, Node::Not(a), variables, at)
     }
 
@@ -163,9 +163,7 @@ impl Formula {
     {
         let left = self.variables(a);
         let right = self.variables(b);
-        let Ok(variables) = Variables::united(alloc, left, right) else {
-            return Err(FormulaFault::NoMemory);
-        };
+        let variables = Variables::united(alloc, left, right)?;
         append(&mut self.entries, joined(op, a, b), variables, at)
     }
 
@@ -184,9 +182,7 @@ impl Formula {
         if !is_among(v, free) {
             return Ok(a);
         }
-        let Ok(variables) = Variables::without(alloc, free, v) else {
-            return Err(FormulaFault::NoMemory);
-        };
+        let variables = Variables::without(alloc, free, v)?;
         append(&mut self.entries, Node::Exists(v, a), variables, at)
     }
 }

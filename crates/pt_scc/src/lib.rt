@@ -56,7 +56,7 @@ mod tests {
                 }
             }
         }
-        Ok(components(alloc, &builder.finish()?)?)
+        Ok(components(alloc, &builder.finish(alloc)?)?)
     }
 
     /// Compares the parts of a table with these, whatever the order within a part.

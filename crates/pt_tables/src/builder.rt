@@ -12,7 +12,6 @@ use std::marker::Model;
 /// A table that is being built.
 #[derive(Drop)]
 pub struct Builder {
-    alloc: Global,
     tracks: u32,
     states: u32,
     outputs: Vec<bool>,
@@ -36,7 +35,6 @@ impl Builder {
         ensures { IfOk result (λ b. b ≡ record { tracks = tracks; states = 0; outputs = []; edges = [] }) }
     {
         Ok(Builder {
-            alloc,
             tracks,
             states: 0,
             outputs: Vec::new(alloc),
@@ -82,12 +80,12 @@ impl Builder {
     }
 
     /// The table that was given, or the first hole, or without holes the first break of the sign rule.
-    pub fn finish(self) -> Result<Table, BuildFault>
+    pub fn finish(self, alloc: Global) -> Result<Table, BuildFault>
         requires { 0 < self.states }
         ensures ok { IfOk result (IsBuilt self) }
         ensures err { IfErr result (IsBuildCause self) }
     {
-        let edges = match targets(self.alloc, self.edges.as_slice(), self.tracks) {
+        let edges = match targets(alloc, self.edges.as_slice(), self.tracks) {
             Ok(edges) => edges,
             Err(fault) => return Err(fault),
         };
@@ -99,7 +97,6 @@ impl Builder {
             return Err(BuildFault::SignRule { state, letter });
         }
         let Builder {
-            alloc: _,
             tracks,
             states,
             outputs,
@@ -124,11 +121,7 @@ fn targets(alloc: Global, edges: &[Option<u32>], tracks: u32) -> Result<Vec<u32>
     let mut found = Vec::new(alloc);
     for (i, edge) in edges.iter().enumerate() {
         match *edge {
-            Some(to) => {
-                if found.push(to).is_err() {
-                    return Err(BuildFault::NoMemory);
-                }
-            }
+            Some(to) => found.push(to)?,
             None => {
                 return Err(BuildFault::Hole {
                     state: (i / (1usize << tracks)) as u32,

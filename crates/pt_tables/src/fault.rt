@@ -1,4 +1,8 @@
 // Why no table was built.
+ghost use Rattle.std.specs.Prelude.{◌≡◌};
+ghost use Rattle.pt_tables.specs.declared.fault.BuildFault.TheVariants as build_fault;
+
+use std::alloc::AllocFailed;
 
 /// Why no table was built.
 #[derive(Clone, Copy, Debug, PartialEq, Eq)]
@@ -8,4 +12,12 @@ pub enum BuildFault {
     /// Where there is no hole, the least pair that breaks the sign rule.
     SignRule { state: u32, letter: u16 },
     NoMemory,
+}
+
+impl<T: Drop> From<AllocFailed<T>> for BuildFault {
+    ghost from_gives = { λ _ fault. fault ≡ build_fault.NoMemory };
+
+    fn from(_failed: AllocFailed<T>) -> Self {
+        BuildFault::NoMemory
+    }
 }

@@ -25,6 +25,14 @@ impl Model for Table {
 }
 
 impl Table {
+    /// A law, which does nothing: each table is an automaton.
+    pub fn is_automaton(&self)
+        ensures { IsAutomaton self.now }
+    {
+        // The invariant of a type is known where one of its fields is used.
+        let _ = &self.tracks;
+    }
+
     /// How many tracks.
     pub fn tracks(&self) -> u32
         ensures tracks { result ≡ self.now.tracks }
@@ -102,7 +110,7 @@ impl Table {
         requires components { length z.now ≡ self.now.tracks }
         ensures { IsTrue result ↔ SetOfState self.now state z.now }
     {
-        let _valid = self.tracks();
+        self.is_automaton();
         let mut reached = state;
         let mut k = 0;
         while !are_signs_behind(z, k) {

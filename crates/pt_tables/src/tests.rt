@@ -23,7 +23,7 @@ fn zero_and_none(alloc: Global) -> Result<Builder, NoMemory>
 
 #[test]
 fn a_built_table_tells_members(rt: HostRuntime) -> Result<(), Fail> {
-    let table = zero_and_none(rt.alloc())?.finish()?;
+    let table = zero_and_none(rt.alloc())?.finish(rt.alloc())?;
     assert!(rt; table.tracks() == 1 && table.states() == 2 && table.letters() == 2);
     assert!(rt; table.next(0, 1) == 1 && table.output(0, 0) && !table.output(0, 1));
     for (x, is_zero) in [(0, true), (-1, false), (1, false), (i128::MIN, false)] {
@@ -39,7 +39,7 @@ fn holes_and_breaks_of_the_sign_rule_are_refused(rt: HostRuntime) -> Result<(), 
     let only = hole.state()?;
     hole.edge(only, 0, only);
     assert!(rt;
-        hole.finish().err()
+        hole.finish(alloc).err()
             == Some(BuildFault::Hole {
                 state: 0,
                 letter: 1
@@ -48,7 +48,7 @@ fn holes_and_breaks_of_the_sign_rule_are_refused(rt: HostRuntime) -> Result<(), 
     let mut broken = zero_and_none(alloc)?;
     broken.edge(0, 0, 1);
     assert!(rt;
-        broken.finish().err()
+        broken.finish(alloc).err()
             == Some(BuildFault::SignRule {
                 state: 0,
                 letter: 0

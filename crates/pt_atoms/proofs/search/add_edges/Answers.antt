@@ -39,7 +39,7 @@ loop-letter-preserved c =
     step_is n p c.step-next.result c.args.sums.now d _ c.requires.normal_form c.requires.parameter c.requires.sums letter c.step-next.ensures (λ s e small range. omega (arith, ints, e, small, range)) in
     let reached = parameter_next n p d c.requires.normal_form c.requires.parameter letter in
     let added : IsAdded (parameter_after n.coefficients p d) old new c.in-Ok.place = subst (λ (q : Parameter). IsAdded q old new c.in-Ok.place) next c.in-Ok.ensures.added in
-    let items : c.push.new.self.items ≡ c.loop-letter.edges.items ++ c.in-Ok.place ∷ [] = c.in-Ok-push.ensures.items in (
+    let items : c.push.new.self.items ≡ c.loop-letter.edges.items ++ c.in-Ok.place ∷ [] = c.in_ok-push.ensures.items in (
       added_reached n (parameter_after n.coefficients p d) old new c.in-Ok.place c.loop-letter.invariant.0 reached added,
       c.in-Ok.ensures.within,
       subst (λ (xs : List ℕ). IsRowOfEdges n p c.args.found.now.keys new c.args.edges.now.items xs (d + 1)) (sym items)

@@ -36,9 +36,9 @@ returns-clause-done c =
     let old = c.args.search.now in
     let sums = c.refresh.new.sums.values.items in
     let kept : AreSums (coefficients_at p.kind n.coefficients) sums =
-    subst (λ (cs : List ℤ). AreSums (coefficients_at p.kind cs) sums) c.as_slice-coefficients.ensures c.in-Ok.ensures.sums in
+    subst (λ (cs : List ℤ). AreSums (coefficients_at p.kind cs) sums) c.as_slice-coefficients.ensures c.in_ok-refresh.ensures.sums in
     let outputs : IsRowOfOutputs p sums old.outputs.items c.add_outputs.new.outputs.items (length sums) =
-    subst (λ (s : List ℤ). IsRowOfOutputs p s old.outputs.items c.add_outputs.new.outputs.items (length s)) c.as_slice-sums.ensures.value c.in-Ok-add_outputs.ensures in
+    subst (λ (s : List ℤ). IsRowOfOutputs p s old.outputs.items c.add_outputs.new.outputs.items (length s)) c.as_slice-sums.ensures.value c.in_ok-add_outputs.ensures in
     on_ok_by c.add_edges.result c.add_edges.ensures.reached c.add_edges.ensures.room c.add_edges.ensures.row
     (λ reached room row.
     search_step n c.args.bound c.args.q p old.found.keys c.add_edges.new.found.keys sums old.edges.items c.add_edges.new.edges.items old.outputs.items c.add_outputs.new.outputs.items c.requires.normal_form c.index-parameter.ensures kept c.requires.done reached room row outputs)

@@ -8,5 +8,4 @@ use Rattle.pt_formula.proofs.append.append.Goals as goal
 pub returns-clause-kept : goal.returns-clause-kept
 returns-clause-kept c =
     let e : Entry = record { node = c.args.node; variables = c.args.variables; position = c.args.at } in
-    let new = rw c.if-is_err.ensures.negation at c.push.ensures.items in
-    subst AreEntries (sym new) (AreEntries-append c.args.entries.now.items e c.requires.entries c.requires.below c.requires.terms c.requires.variables (omega arith) (omega arith))
+    subst AreEntries (sym c.in_ok-push.ensures.items) (AreEntries-append c.args.entries.now.items e c.requires.entries c.requires.below c.requires.terms c.requires.variables (omega arith) (omega arith))

@@ -7,7 +7,7 @@ use Rattle.pt_formula.proofs.formula.Formula.binary.Goals as goal
 
 pub append-requires-clause-variables : goal.append-requires-clause-variables
 append-requires-clause-variables c =
-    let united : c.in-Ok.variables ≡ union c.variables-left.result.now c.variables-right.result.now = c.in-Ok.ensures in
+    let united : c.in_ok-variables.variables ≡ union c.variables-left.result.now c.variables-right.result.now = c.in_ok-variables.ensures in
     let t = tree_of (shown c.self.inside.entries.items) in
     united
     ∙ ap (λ vs. union vs c.variables-right.result.now) c.variables-left.ensures.free
