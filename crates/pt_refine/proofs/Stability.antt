@@ -1,4 +1,4 @@
--- The steps of a refinement by rounds, and the automaton of the classes.
+-- The automaton of the classes.
 use Rattle.std.proofs.Common.{◌≡◌, inl, inr, ℕ, ◌+◌, ◌*◌, ◌^◌, ◌<◌, ◌≤◌, Bool, true, false, cond, List, length, get_or, refl, ap, sym, ◌∙◌, arith, below_more}
 use Rattle.std.specs.Prelude.{◌↔◌}
 use Rattle.std.proofs.lemmas.Bool.{cases_eq}
@@ -6,62 +6,8 @@ use Rattle.pt_sets.specs.Languages.{SameLanguage}
 use Rattle.pt_sets.specs.Automata.{Automaton, IsAutomaton, next_of, output_of, language_of}
 use Rattle.pt_sets.proofs.Running.{state-same}
 use Rattle.pt_refine.specs.Reduction.{IsReductionOf}
-use Rattle.pt_refine.specs.Refining.{Separates, NumbersPairs, SameOutputs, SameSteps, ToldBy, IsStable, AreMembers}
-use Rattle.pt_refine.proofs.Splitting.{separates-split}
-use Rattle.pt_refine.proofs.Counting.{count-grows, same-count}
-use Rattle.pt_refine.proofs.Meaning.{told-empty, told-letter, told-differs, one-class-same, class-set}
-
--- a test as a number
-abbrev pub bit : Bool → ℕ
-bit b = cond b 1 0
-
-bit-same : (x y : Bool) → bit x ≡ bit y → x ≡ y
-bit-same true true e = refl
-bit-same false false e = refl
-bit-same true false e = absurd (omega arith)
-bit-same false true e = absurd (omega arith)
-
-pub outputs-more : (a : Automaton) (k : ℕ) (left right new : List ℕ) (count count' : ℕ) → k < 2 ^ a.tracks → Separates a.states (SameOutputs a k) (ToldBy a) left count →
-    ((q : ℕ) → q < a.states → get_or right q 0 ≡ bit (output_of a q k)) → NumbersPairs left right new count' → Separates a.states (SameOutputs a (k + 1)) (ToldBy a) new count'
-outputs-more a k left right new count count' k_in old keys split =
-    separates-split old (SameOutputs a (k + 1)) right new count' split
-    (λ q r q_in r_in same equal. below_more (λ s. output_of a q s ≡ output_of a r s) k same (bit-same (output_of a q k) (output_of a r k) (sym (keys q q_in) ∙ equal ∙ keys r r_in)))
-    (λ q r q_in r_in differ. told-empty a.tracks a.states (next_of a) (output_of a) q r k k_in (λ e. differ (keys q q_in ∙ ap bit e ∙ sym (keys r r_in))))
-
-pub steps-more : (a : Automaton) (k : ℕ) (Alike : ℕ → ℕ → Type 0) (old left right new : List ℕ) (c count count' : ℕ) → IsAutomaton a → k < 2 ^ a.tracks → Separates a.states Alike (ToldBy a) old c →
-    Separates a.states (SameSteps a old k) (ToldBy a) left count →
-    ((q : ℕ) → q < a.states → get_or right q 0 ≡ get_or old (next_of a q k) 0) → NumbersPairs left right new count' → Separates a.states (SameSteps a old (k + 1)) (ToldBy a) new count'
-steps-more a k Alike old left right new c count count' shape k_in before finer keys split =
-    separates-split finer (SameSteps a old (k + 1)) right new count' split
-    (λ q r q_in r_in same equal.
-    (same.0, below_more (λ l. get_or old (next_of a q l) 0 ≡ get_or old (next_of a r l) 0) k same.1 (sym (keys q q_in) ∙ equal ∙ keys r r_in)))
-    (λ q r q_in r_in differ.
-    told-letter a.tracks a.states (next_of a) (output_of a) q r k k_in
-    (before.apart (next_of a q k) (next_of a r k) (shape.closed q k q_in k_in) (shape.closed r k r_in k_in) (λ e. differ (keys q q_in ∙ e ∙ sym (keys r r_in)))))
-
-pub steps-none : (a : Automaton) (Alike : ℕ → ℕ → Type 0) (old : List ℕ) (c : ℕ) → Separates a.states Alike (ToldBy a) old c → Separates a.states (SameSteps a old 0) (ToldBy a) old c
-steps-none a Alike old c before = record { numbering = before.numbering; alike = λ q r q_in r_in e. (e, λ l lt. absurd (omega arith)); apart = before.apart }
-
-pub finer-alike : (a : Automaton) (k : ℕ) (Alike : ℕ → ℕ → Type 0) (old new : List ℕ) (c c' : ℕ) → Separates a.states Alike (ToldBy a) old c → Separates a.states (SameSteps a old k) (ToldBy a) new c' →
-    Separates a.states Alike (ToldBy a) new c'
-finer-alike a k Alike old new c c' before finer = record {
-  numbering = finer.numbering;
-  alike = λ q r q_in r_in e. before.alike q r q_in r_in (finer.alike q r q_in r_in e).0;
-  apart = finer.apart;
-}
-
-pub finer-count : (a : Automaton) (k : ℕ) (Alike : ℕ → ℕ → Type 0) (old new : List ℕ) (c c' : ℕ) → Separates a.states Alike (ToldBy a) old c → Separates a.states (SameSteps a old k) (ToldBy a) new c' → c ≤ c'
-finer-count a k Alike old new c c' before finer = count-grows before.numbering finer.numbering (λ q r q_in r_in e. (finer.alike q r q_in r_in e).0)
-
-pub stable-from : (a : Automaton) (old new : List ℕ) (c c' : ℕ) → Separates a.states (SameOutputs a (2 ^ a.tracks)) (ToldBy a) old c → Separates a.states (SameSteps a old (2 ^ a.tracks)) (ToldBy a) new c' →
-    c' ≡ c → c ≤ a.states → IsStable a old c
-stable-from a old new c c' before finer e few = record {
-  separates = before;
-  few = few;
-  stable = λ q r l q_in r_in same letter.
-      let still = same-count before.numbering (rw e at finer.numbering) (λ q r q_in r_in e. (finer.alike q r q_in r_in e).0) q r q_in r_in same in
-      (finer.alike q r q_in r_in still).1 l letter;
-}
+use Rattle.pt_refine.specs.Refining.{IsStable, AreMembers}
+use Rattle.pt_refine.proofs.Meaning.{told-differs, one-class-same, class-set}
 
 -- The rows of the classes are an automaton, which has the sets of the members.
 module _ (a : Automaton) (numbers members : List ℕ) (count : ℕ) (outputs : List Bool) (edges : List ℕ) (shape : IsAutomaton a) (classes : IsStable a numbers count) (some : AreMembers numbers members count)
