@@ -10,7 +10,7 @@ use Rattle.pt_sets.specs.declared.Edge.TheVariants.{Near, Far}
 use Rattle.pt_sets.specs.Components.{first_places, far_exits, exit_eq}
 use Rattle.pt_sets.proofs.ReadBack.{exit_eq-same, exit_eq-refl, bool-cases}
 use Rattle.pt_sets.proofs.SearchOrder.{filter-append}
-use Rattle.pt_code.specs.Racing.{number_in}
+use Rattle.pt_code.specs.Parts.{number_in}
 
 module _ {X : Type 0} (eq : X → X → Bool) (same : (x y : X) → eq x y ≡ true → x ≡ y) (itself : (x : X) → eq x x ≡ true) where
   other_than : (q y x : X) → eq x y ≡ true → eq x q ≡ false → eq q y ≡ false

@@ -1,61 +1,58 @@
 -- The least code of the entries that were tried.
-use Rattle.std.proofs.Common.{◌≡◌, ◌≢◌, ℕ, ◌+◌, List, refl, ap, sym, ◌∙◌, subst, arith, false, below_more}
-use Rattle.std.specs.Ordering.{nat_cmp, ordering_reverse, is_gt}
+use Rattle.std.proofs.Common.{◌≡◌, ◌≢◌, ℕ, ◌+◌, ◌<◌, List, refl, ap, sym, ◌∙◌, subst, arith, below_more}
+use Rattle.std.specs.Ordering.{nat_cmp, ordering_reverse}
 use Rattle.std.specs.Cmp.Lexicographic.{slice_cmp}
 use Rattle.std.specs.declared.cmp.Ordering.{Ordering}
 use Rattle.std.specs.declared.cmp.Ordering.TheVariants.{Less, Equal, Greater}
-use Rattle.std.proofs.lemmas.Cmp.{nat_list_cmp_total, upto, tied_itself}
 use Rattle.pt_sets.specs.Components.{Component, code_from}
 use Rattle.pt_code.specs.Coding.{IsCoding, numbers_from}
-use Rattle.pt_code.specs.Racing.{Leads}
+use Rattle.pt_code.specs.Parts.{Leads}
+use Rattle.pt_code.proofs.Comparing.{cmp-itself, cmp-back, cmp-through}
 
-not-greater : (o : Ordering) → o ≢ Greater → is_gt o ≡ false
-not-greater Less h = refl
-not-greater Equal h = refl
-not-greater Greater h = absurd (h refl)
-
-is-not-greater : (o : Ordering) → is_gt o ≡ false → o ≢ Greater
-is-not-greater o h = λ same. let yes' = ap is_gt same in absurd (cc (yes', h))
-
-itself : (code : List ℕ) → slice_cmp nat_cmp code code ≢ Greater
-itself code = λ same. cc (tied_itself nat_list_cmp_total code, same)
+itself : (code other : List ℕ) → code ≡ other → slice_cmp nat_cmp code other ≢ Greater
+itself code other same = λ over. cc (cmp-itself code other same, over)
 
 -- the first entry leads
-pub leads-first : (p : Component) (code numbering : List ℕ) → code ≡ code_from p 0 → numbering ≡ numbers_from p 0 → Leads p 1 code numbering
-leads-first p code numbering is_code is_numbering = record {
-  least = λ entry h.
-      let zero_is : entry ≡ 0 = omega arith in
-      subst (λ (e : ℕ). slice_cmp nat_cmp code (code_from p e) ≢ Greater) (sym zero_is) (subst (λ (c : List ℕ). slice_cmp nat_cmp code c ≢ Greater) is_code (itself code));
-  numbers = (0, omega arith, is_code, is_numbering, λ e h. absurd (omega arith));
+pub leads-first : (p : Component) (entry : ℕ) → entry ≡ 0 → Leads p 1 entry
+leads-first p entry is_zero = record {
+  within = omega arith;
+  least = λ e h. let same : entry ≡ e = omega arith in itself (code_from p entry) (code_from p e) (ap (code_from p) same);
+  first = λ e h. absurd (omega arith);
 }
 
 -- an entry that is no better changes nothing
-pub leads-still : (p : Component) (n : ℕ) (code numbering : List ℕ) → Leads p n code numbering → slice_cmp nat_cmp code (code_from p n) ≢ Greater → Leads p (n + 1) code numbering
-leads-still p n code numbering leads no_better =
-    let (entry, in_n, is_code, is_numbering, earlier) = leads.numbers in
-    record {
-      least = below_more (λ e. slice_cmp nat_cmp code (code_from p e) ≢ Greater) n leads.least no_better;
-      numbers = (entry, omega arith, is_code, is_numbering, earlier);
-    }
+pub leads-still : (p : Component) (n entry : ℕ) (o : Ordering) → Leads p n entry → o ≡ slice_cmp nat_cmp (code_from p n) (code_from p entry) → o ≢ Less → Leads p (n + 1) entry
+leads-still p n entry o leads is no_better = record {
+  within = let h = leads.within in omega arith;
+  least = below_more (λ e. slice_cmp nat_cmp (code_from p entry) (code_from p e) ≢ Greater) n leads.least (λ over. no_better (less o (sym (cmp-back (code_from p n) (code_from p entry) o is) ∙ over)));
+  first = leads.first;
+}
+  where
+    less : (o : Ordering) → ordering_reverse o ≡ Greater → o ≡ Less
+    less Less h = refl
+    less Equal h = absurd (cc h)
+    less Greater h = absurd (cc h)
 
 -- a better one leads
-pub leads-new : (p : Component) (n : ℕ) (code numbering new places : List ℕ) → Leads p n code numbering → slice_cmp nat_cmp code (code_from p n) ≡ Greater → new ≡ code_from p n → places ≡ numbers_from p n →
-    Leads p (n + 1) new places
-leads-new p n code numbering new places leads better is_new is_places =
-    let over : slice_cmp nat_cmp code new ≡ Greater = ap (slice_cmp nat_cmp code) is_new ∙ better in
-    let under : slice_cmp nat_cmp new code ≡ Less = nat_list_cmp_total.antisymm new code ∙ ap ordering_reverse over in
+pub leads-new : (p : Component) (n entry : ℕ) (o : Ordering) → Leads p n entry → o ≡ slice_cmp nat_cmp (code_from p n) (code_from p entry) → o ≡ Less → Leads p (n + 1) n
+leads-new p n entry o leads is better =
+    let under : slice_cmp nat_cmp (code_from p n) (code_from p entry) ≡ Less = sym is ∙ better in
+    let over : slice_cmp nat_cmp (code_from p entry) (code_from p n) ≡ Greater = cmp-back (code_from p n) (code_from p entry) o is ∙ ap ordering_reverse better in
     record {
-      least = below_more (λ e. slice_cmp nat_cmp new (code_from p e) ≢ Greater) n
-          (λ e h. is-not-greater (slice_cmp nat_cmp new (code_from p e)) (upto nat_list_cmp_total new code (code_from p e) (ap is_gt under) (not-greater (slice_cmp nat_cmp code (code_from p e)) (leads.least e h))))
-          (subst (λ (c : List ℕ). slice_cmp nat_cmp new c ≢ Greater) is_new (itself new));
-      numbers = (n, omega arith, is_new, is_places, λ e h same. leads.least e h (ap (slice_cmp nat_cmp code) (sym same) ∙ over));
+      within = omega arith;
+      least = below_more (λ e. slice_cmp nat_cmp (code_from p n) (code_from p e) ≢ Greater) n
+          (λ e h. cmp-through (code_from p n) (code_from p entry) (code_from p e) (λ g. cc (under, g)) (leads.least e h))
+          (itself (code_from p n) (code_from p n) refl);
+      first = λ e h same. leads.least e h (ap (slice_cmp nat_cmp (code_from p entry)) (sym same) ∙ over);
     }
 
 -- at last it is the least code
-pub leads-all : (p : Component) (n : ℕ) (code numbering : List ℕ) → n ≡ p.states → Leads p n code numbering → IsCoding p code numbering
-leads-all p n code numbering all leads =
-    let (entry, in_n, is_code, is_numbering, earlier) = leads.numbers in
+pub leads-all : (p : Component) (entry : ℕ) (code numbering : List ℕ) → Leads p p.states entry → code ≡ code_from p entry → numbering ≡ numbers_from p entry → IsCoding p code numbering
+leads-all p entry code numbering leads is_code is_numbering =
     record {
-      least = record { some_entry = (entry, omega arith, is_code); least = λ e h. leads.least e (omega arith) };
-      numbers = (entry, omega arith, is_code, is_numbering, earlier);
+      least = record {
+        some_entry = (entry, leads.within, is_code);
+        least = λ e h. subst (λ (c : List ℕ). slice_cmp nat_cmp c (code_from p e) ≢ Greater) (sym is_code) (leads.least e h);
+      };
+      numbers = (entry, leads.within, is_code, is_numbering, λ e h same. leads.first e h (sym is_code ∙ same));
     }

@@ -1,9 +1,16 @@
 pub mod Queue
 pub mod Comparing
 pub mod Parts
+pub mod Bits
 pub mod Exits
-pub mod Rows
+pub mod Written
 pub mod Placing
+pub mod Numbering
+pub mod Nearby
+pub mod Beside
+pub mod Deciding
 pub mod Whole
 pub mod Leading
+pub mod Answering
+pub mod Bestness
 pub mod Ring

@@ -1,14 +1,10 @@
 -- Lists that are written part by part.
 use Rattle.std.proofs.Common.{◌≡◌, ℕ, ◌+◌, ◌*◌, ◌^◌, ◌<◌, ◌≤◌, List, [], ◌∷◌, ◌++◌, take, drop, length, refl, ap, sym, ◌∙◌, subst, arith, get_or, append_assoc}
-use Rattle.std.specs.Prelude.{Option}
 use Rattle.std.specs.List.{flat_map}
-use Rattle.std.specs.declared.cmp.Ordering.TheVariants.{Greater}
 use Rattle.std.proofs.lemmas.List.{append-nil, take_more, take-append-drop}
 use Rattle.std.proofs.lemmas.Grind.{flat_map-append}
 use Rattle.std.proofs.Math.Nat.{mul-le-mul_left}
 use Rattle.std.proofs.Math.Pow.{pow_mono}
-use Rattle.pt_code.specs.Racing.{Stands}
-use Rattle.pt_code.proofs.Comparing.{Stands-greater}
 
 -- the part of one more item
 pub flat_map-more : {X Y : Type 0} (h : X → List Y) (xs : List X) (i : ℕ) (d : X) → i < length xs → flat_map h (take (i + 1) xs) ≡ flat_map h (take i xs) ++ h (get_or xs i d)
@@ -27,29 +23,6 @@ written-more {X} {Y} h xs i d before now next inside is step =
     ∙ ap (λ (l : List Y). l ++ h (get_or xs i d)) is
     ∙ append_assoc before (flat_map h (take i xs)) (h (get_or xs i d))
     ∙ ap (λ (l : List Y). before ++ l) (sym (flat_map-more h xs i d inside))
-
--- what is greater after some items is greater after all
-pub greater-at-last : {X : Type 0} (best : Option (List ℕ)) (h : X → List ℕ) (xs : List X) (i : ℕ) (before now : List ℕ) → now ≡ before ++ flat_map h (take i xs) → Stands best now Greater →
-    Stands best (before ++ flat_map h xs) Greater
-greater-at-last best h xs i before now is stands =
-    let whole : before ++ flat_map h xs ≡ now ++ flat_map h (drop i xs) =
-    ap (λ (l : List ℕ). before ++ l) (flat_map-split h xs i) ∙ sym (append_assoc before (flat_map h (take i xs)) (flat_map h (drop i xs))) ∙ ap (λ (l : List ℕ). l ++ flat_map h (drop i xs)) (sym is) in
-    subst (λ (l : List ℕ). Stands best l Greater) (sym whole) (Stands-greater best now (flat_map h (drop i xs)) stands)
-
--- the part of the other items
-pub written-rest : {X Y : Type 0} (h : X → List Y) (xs : List X) (i : ℕ) (before now : List Y) → now ≡ before ++ flat_map h (take i xs) → now ++ flat_map h (drop i xs) ≡ before ++ flat_map h xs
-written-rest {X} {Y} h xs i before now is =
-    ap (λ (l : List Y). l ++ flat_map h (drop i xs)) is
-    ∙ append_assoc before (flat_map h (take i xs)) (flat_map h (drop i xs))
-    ∙ ap (λ (l : List Y). before ++ l) (sym (flat_map-split h xs i))
-
--- what is greater by the first items is greater by all
-pub greater-in-whole : {X : Type 0} (best : Option (List ℕ)) (h : X → List ℕ) (before : List ℕ) (some more all : List X) → all ≡ some ++ more → Stands best (before ++ flat_map h some) Greater →
-    Stands best (before ++ flat_map h all) Greater
-greater-in-whole best h before some more all is stands =
-    let whole : before ++ flat_map h all ≡ (before ++ flat_map h some) ++ flat_map h more =
-    ap (λ (l : List ℕ). before ++ l) (ap (flat_map h) is ∙ flat_map-append h some more) ∙ sym (append_assoc before (flat_map h some) (flat_map h more)) in
-    subst (λ (l : List ℕ). Stands best l Greater) (sym whole) (Stands-greater best (before ++ flat_map h some) (flat_map h more) stands)
 
 pub take-front : {X : Type 0} (xs ys : List X) → take (length xs) (xs ++ ys) ≡ xs
 take-front [] ys = refl

@@ -20,16 +20,6 @@ module _ (p : Component) (in_p : IsComponent p) (connected : IsStronglyConnected
   pub order-at : (j : ℕ) → j < length order → get_or order j 0 < p.states
   order-at j h = In-AllOf (λ q. q < p.states) (get_or order j 0) order (In-get_or order j 0 h) (search_order-within p in_p entry p.states in_range)
 
-  -- one more state has its number
-  pub placed-more : (places : List ℕ) (n : ℕ) → length places ≡ p.states → n < length order → ((j : ℕ) → j < n → get_or places (get_or order j 0) 0 ≡ j) →
-      (j : ℕ) → j < n + 1 → get_or (set places (get_or order n 0) n) (get_or order j 0) 0 ≡ j
-  placed-more places n room inside placed =
-      below_more (λ j. get_or (set places (get_or order n 0) n) (get_or order j 0) 0 ≡ j) n
-      (λ j h.
-      let apart : get_or order j 0 ≢ get_or order n 0 = λ e. let same = Distinct-injective order (order-distinct p in_p entry in_range p.states) j n (omega arith) inside e in absurd (omega arith) in
-      rw get_or-set_other (placed j h))
-      (let within : get_or order n 0 < length places = omega (arith, room, order-at n inside) in rw get_or-set_same refl)
-
   -- all have them
   pub placed-all : (places : List ℕ) → length places ≡ p.states → ((j : ℕ) → j < length order → get_or places (get_or order j 0) 0 ≡ j) → places ≡ numbers_from p entry
   placed-all places room placed =

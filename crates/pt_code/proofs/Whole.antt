@@ -1,8 +1,7 @@
 -- The parts of a code are the code.
-use Rattle.std.proofs.Common.{◌≡◌, ℕ, ◌<◌, List, ◌∷◌, ◌++◌, map, length, refl, ap, sym, ◌∙◌, subst, arith, append_assoc}
-use Rattle.std.specs.Prelude.{Option, ◌==◌}
+use Rattle.std.proofs.Common.{◌≡◌, ℕ, ◌<◌, List, ◌∷◌, ◌++◌, map, length, refl, ap, sym, ◌∙◌, arith, append_assoc}
+use Rattle.std.specs.Prelude.{◌==◌}
 use Rattle.std.specs.List.{flat_map, position_or_len}
-use Rattle.std.specs.declared.cmp.Ordering.TheVariants.{Greater}
 use Rattle.std.proofs.lemmas.List.FromFn.{length-map-range_with_len, get_or-map-range_with_len}
 use Rattle.pt_sets.specs.declared.Exit.{Exit}
 use Rattle.pt_sets.specs.declared.Edge.{Edge}
@@ -11,8 +10,7 @@ use Rattle.pt_sets.specs.Components.{Component, StaysWithin, IsComponent, edge_n
 use Rattle.pt_sets.proofs.Mapping.{map-same, flat_map-same}
 use Rattle.pt_sets.proofs.Isomorphic.{edges_from-within, search_order-within}
 use Rattle.pt_code.specs.Coding.{numbers_from}
-use Rattle.pt_code.specs.Racing.{Stands, IsNoBetter, header_of, outputs_part, edges_part, number_in}
-use Rattle.pt_code.proofs.Comparing.{Stands-greater, Stands-no_better}
+use Rattle.pt_code.specs.Parts.{header_of, outputs_part, edges_part, number_in}
 
 module _ (p : Component) (in_p : IsComponent p) (entry : ℕ) (in_range : entry < p.states) where
   abbrev order : List ℕ
@@ -40,20 +38,8 @@ module _ (p : Component) (in_p : IsComponent p) (entry : ℕ) (in_range : entry 
   code-parts : code_from p entry ≡ (header_of p ++ outputs_part p order) ++ (edges_part p (numbers_from p entry) exits order ++ tail)
   code-parts = ap (λ (l : List ℕ). (header_of p ++ outputs_part p order) ++ (l ++ tail)) same-edges
 
-  -- what is greater by the outputs, or by the edges, is no better
-  pub outputs-no_better : (best : Option (List ℕ)) → Stands best (header_of p ++ outputs_part p order) Greater → IsNoBetter best (code_from p entry)
-  outputs-no_better best stands =
-      subst (IsNoBetter best) (sym code-parts)
-      (Stands-no_better best ((header_of p ++ outputs_part p order) ++ (edges_part p (numbers_from p entry) exits order ++ tail))
-      (Stands-greater best (header_of p ++ outputs_part p order) (edges_part p (numbers_from p entry) exits order ++ tail) stands))
-
   split : code_from p entry ≡ ((header_of p ++ outputs_part p order) ++ edges_part p (numbers_from p entry) exits order) ++ tail
   split = code-parts ∙ sym (append_assoc (header_of p ++ outputs_part p order) (edges_part p (numbers_from p entry) exits order) tail)
-
-  pub edges-no_better : (best : Option (List ℕ)) → Stands best ((header_of p ++ outputs_part p order) ++ edges_part p (numbers_from p entry) exits order) Greater → IsNoBetter best (code_from p entry)
-  edges-no_better best stands =
-      let written = (header_of p ++ outputs_part p order) ++ edges_part p (numbers_from p entry) exits order in
-      subst (IsNoBetter best) (sym split) (Stands-no_better best (written ++ tail) (Stands-greater best written tail stands))
 
   -- what is written at last
   pub whole-code : (first second last : List ℕ) (keys : List Exit) → first ≡ header_of p ++ outputs_part p order → second ≡ first ++ edges_part p (numbers_from p entry) exits order → keys ≡ exits →

@@ -1,4 +1,6 @@
 pub mod Component
 pub mod Coding
 pub mod Searching
-pub mod Racing
+pub mod Parts
+pub mod Sides
+pub mod Best

@@ -1,18 +1,23 @@
 // The least code of a component.
-ghost use Rattle.std.specs.Prelude.{◌≡◌, ◌<◌, [], IfOk, IfSome, OnOk, MatchOption, length, slice_index, vec_len, option_map};
+ghost use Rattle.std.specs.Prelude.{◌≡◌, ◌+◌, ◌<◌, ℕ, false, IfOk, OnOk, IsTrue, length, slice_index, slice_index_or, vec_len};
 ghost use Rattle.std.specs.Arc.{arc_value};
-ghost use Rattle.pt_sets.specs.Components.{IsComponent, IsStronglyConnected, code_from};
+ghost use Rattle.std.specs.Ordering.{nat_cmp};
+ghost use Rattle.std.specs.Cmp.Lexicographic.{slice_cmp};
+ghost use Rattle.pt_sets.specs.Components.{IsComponent, IsStronglyConnected, code_from, states_in_order};
 ghost use Rattle.pt_code.specs.Component.{component};
 ghost use Rattle.pt_code.specs.Coding.{IsCoding, IsomorphicComponentsHaveOneCode, CodesReadBackAreTheirComponents, numbers_from};
-ghost use Rattle.pt_code.specs.Racing.{IsBetter, IsNoBetter};
-ghost use Rattle.pt_code.specs.Searching.{Marks};
+ghost use Rattle.pt_code.specs.Best.{IsBest};
+ghost use Rattle.pt_code.specs.Parts.{IsHighs, Leads, outputs_part};
+ghost use Rattle.pt_code.specs.Searching.{IsNear};
 
 use crate::code::Code;
 use crate::fault::NoMemory;
+use crate::links::{Side, compare_links};
+use crate::near::{Near, near_of, search};
+use crate::order::Order;
 use crate::piece::Piece;
-use crate::race::{at_start, judge, race_edges};
-use crate::search::{race_states, unmark};
-use crate::writing::{header, is_better, places_in, write_exits};
+use crate::rows::{Best, compare_rows, highs_of, is_flat, run_of};
+use crate::writing::write_code;
 use std::alloc::Global;
 use std::cmp::Ordering;
 use std::marker::Model;
@@ -51,84 +56,167 @@ impl Coded {
     }
 }
 
-/// The code from an entry, and the numbers that it gives the states.
+/// What is known of a piece before its entries are compared: the successors of its states, which of its states are high,
+/// and whether none is.
 #[derive(Drop)]
-struct Written {
-    code: Vec<u32>,
-    places: Vec<u32>,
+struct Shape {
+    near: Near,
+    highs: Vec<bool>,
+    flat: bool,
 }
 
-/// The code from an entry, where it is less than the best one.
-fn race(
-    alloc: Global,
-    piece: &Piece,
-    entry: u32,
-    best: Option<&[u32]>,
-    seen: &mut Vec<bool>,
-) -> Result<Option<Written>, NoMemory>
+fn shape_of(alloc: Global, piece: &Piece) -> Result<Shape, NoMemory>
+    requires component { IsComponent (component piece.now) }
+    ensures near { IfOk result (λ shape. IsNear (component piece.now) shape.near.starts.items shape.near.targets.items) }
+    ensures highs { IfOk result (λ shape. IsHighs (component piece.now) shape.highs.items) }
+    ensures flat { IfOk result (λ shape. IsTrue shape.flat → (q : ℕ) → q < piece.now.states → slice_index_or shape.highs.items q false ≡ false) }
+{
+    let near = near_of(alloc, piece)?;
+    let highs = highs_of(alloc, piece)?;
+    let flat = is_flat(&highs);
+    Ok(Shape { near, highs, flat })
+}
+
+/// Makes an entry the best one.
+fn set_best(piece: &Piece, shape: &Shape, entry: u32, best: &mut Best) -> Result<(), NoMemory>
     requires component { IsComponent (component piece.now) }
     requires connected { IsStronglyConnected (component piece.now) }
+    requires near { IsNear (component piece.now) shape.now.near.starts.items shape.now.near.targets.items }
+    requires highs { IsHighs (component piece.now) shape.now.highs.items }
     requires entry { entry < piece.now.states }
-    requires unmarked { Marks seen.old.items [] }
-    requires room { vec_len seen.old ≡ piece.now.states }
-    ensures unmarked { OnOk result (Marks seen.new.items []) }
-    ensures room { vec_len seen.new ≡ vec_len seen.old }
-    ensures better { IfOk result (λ found. MatchOption found (IsNoBetter (option_map (λ b. b.now) best.entry) (code_from (component piece.now) entry)) (λ written. IsBetter (option_map (λ b. b.now) best.entry) (code_from (component piece.now) entry))) }
-    ensures written { IfOk result (λ found. IfSome found (λ written. (written.code.items ≡ code_from (component piece.now) entry) × (written.places.items ≡ numbers_from (component piece.now) entry))) }
+    requires room { vec_len best.old.order.places ≡ piece.now.states }
+    ensures entry { OnOk result (best.new.entry ≡ entry) }
+    ensures best { OnOk result (IsBest (component piece.now) shape.now.highs.items best.new) }
 {
-    let mut code = header(alloc, piece)?;
-    let standing = judge(best, &code, 0, at_start(best));
-    let states = race_states(alloc, piece, entry, best, standing, seen, &mut code)?;
-    unmark(seen, &states.order);
-    if let Ordering::Greater = states.standing {
-        return Ok(None);
+    search(piece, &shape.near, entry, &mut best.order)?;
+    best.entry = entry;
+    best.run = run_of(&shape.highs, &best.order.states);
+    Ok(())
+}
+
+/// How the outputs in the order from an entry compare with those in the best order.
+fn compare_states(
+    piece: &Piece,
+    shape: &Shape,
+    best: &Best,
+    entry: u32,
+    order: &mut Order,
+) -> Result<Ordering, NoMemory>
+    requires component { IsComponent (component piece.now) }
+    requires connected { IsStronglyConnected (component piece.now) }
+    requires near { IsNear (component piece.now) shape.now.near.starts.items shape.now.near.targets.items }
+    requires highs { IsHighs (component piece.now) shape.now.highs.items }
+    requires flat { IsTrue shape.now.flat → (q : ℕ) → q < piece.now.states → slice_index_or shape.now.highs.items q false ≡ false }
+    requires best { IsBest (component piece.now) shape.now.highs.items best.now }
+    requires entry { entry < piece.now.states }
+    requires room { vec_len order.old.places ≡ piece.now.states }
+    ensures order { IfOk result (λ o. o ≡ slice_cmp nat_cmp (outputs_part (component piece.now) (states_in_order (component piece.now) entry)) (outputs_part (component piece.now) (states_in_order (component piece.now) best.now.entry))) }
+    ensures room { vec_len order.new.places ≡ vec_len order.old.places }
+{
+    if shape.flat {
+        return Ok(Ordering::Equal);
     }
-    let places = places_in(alloc, piece, entry, &states.order)?;
-    let exits = race_edges(
-        alloc,
-        piece,
-        &states.order,
-        &places,
-        best,
-        states.standing,
-        &mut code,
-    )?;
-    if let Ordering::Greater = exits.standing {
-        return Ok(None);
+    compare_rows(piece, &shape.near, &shape.highs, best, entry, order)
+}
+
+/// How the code from an entry compares with the best one: by the outputs, then by the edges and the exits.
+fn compare_entry(
+    alloc: Global,
+    piece: &Piece,
+    shape: &Shape,
+    best: &Best,
+    entry: u32,
+    side: &mut Side,
+    other: &mut Side,
+) -> Result<Ordering, NoMemory>
+    requires component { IsComponent (component piece.now) }
+    requires connected { IsStronglyConnected (component piece.now) }
+    requires near { IsNear (component piece.now) shape.now.near.starts.items shape.now.near.targets.items }
+    requires highs { IsHighs (component piece.now) shape.now.highs.items }
+    requires flat { IsTrue shape.now.flat → (q : ℕ) → q < piece.now.states → slice_index_or shape.now.highs.items q false ≡ false }
+    requires best { IsBest (component piece.now) shape.now.highs.items best.now }
+    requires entry { entry < piece.now.states }
+    requires room { vec_len side.old.order.places ≡ piece.now.states }
+    requires other_room { vec_len other.old.order.places ≡ piece.now.states }
+    ensures order { IfOk result (λ o. o ≡ slice_cmp nat_cmp (code_from (component piece.now) entry) (code_from (component piece.now) best.now.entry)) }
+    ensures room { vec_len side.new.order.places ≡ vec_len side.old.order.places }
+    ensures other_room { vec_len other.new.order.places ≡ vec_len other.old.order.places }
+{
+    let order = compare_states(piece, shape, best, entry, &mut side.order)?;
+    let Ordering::Equal = order else {
+        return Ok(order);
+    };
+    compare_links(alloc, piece, entry, best.entry, side, other)
+}
+
+/// Makes an entry the best one where its code is less.
+fn improve(
+    piece: &Piece,
+    shape: &Shape,
+    order: Ordering,
+    entry: u32,
+    best: &mut Best,
+) -> Result<(), NoMemory>
+    requires component { IsComponent (component piece.now) }
+    requires connected { IsStronglyConnected (component piece.now) }
+    requires near { IsNear (component piece.now) shape.now.near.starts.items shape.now.near.targets.items }
+    requires highs { IsHighs (component piece.now) shape.now.highs.items }
+    requires entry { entry < piece.now.states }
+    requires best { IsBest (component piece.now) shape.now.highs.items best.old }
+    requires order { order ≡ slice_cmp nat_cmp (code_from (component piece.now) entry) (code_from (component piece.now) best.old.entry) }
+    requires leads { Leads (component piece.now) entry best.old.entry }
+    ensures best { OnOk result (IsBest (component piece.now) shape.now.highs.items best.new) }
+    ensures leads { OnOk result (Leads (component piece.now) (entry + 1) best.new.entry) }
+{
+    match order {
+        Ordering::Less => set_best(piece, shape, entry, best),
+        _ => Ok(()),
     }
-    write_exits(&exits.found, &mut code)?;
-    if is_better(best, &code) {
-        Ok(Some(Written { code, places }))
-    } else {
-        Ok(None)
+}
+
+/// The first entry that gives the least code, with the order from it.
+fn best_of(alloc: Global, piece: &Piece) -> Result<Best, NoMemory>
+    requires component { IsComponent (component piece.now) }
+    requires connected { IsStronglyConnected (component piece.now) }
+    ensures leads { IfOk result (λ best. Leads (component piece.now) piece.now.states best.entry) }
+    ensures order { IfOk result (λ best. best.order.states.items ≡ states_in_order (component piece.now) best.entry) }
+    ensures places { IfOk result (λ best. best.order.places.items ≡ numbers_from (component piece.now) best.entry) }
+{
+    let shape = shape_of(alloc, piece)?;
+    let mut best = Best {
+        entry: 0,
+        order: Order::new(alloc, piece.states)?,
+        run: 0,
+    };
+    set_best(piece, &shape, 0, &mut best)?;
+    let mut side = Side::new(alloc, piece.states)?;
+    let mut other = Side::new(alloc, piece.states)?;
+    for entry in 1..piece.states {
+        let order = compare_entry(alloc, piece, &shape, &best, entry, &mut side, &mut other)?;
+        improve(piece, &shape, order, entry, &mut best)?;
     }
+    Ok(best)
 }
 
 /// The lexicographically least code over all entry states, with the numbers of the states from the least-numbered
 /// entry that gives it.
 ///
-/// A breadth-first search numbers the states from each entry in turn; its code is compared with the best one as it is
-/// written, and cut off at the first state whose numbers make it greater. So the cost is near linear in the edges where
-/// states differ in what is near them. Where they do not, as in a ring of states whose outputs are nearly all alike,
-/// each entry may cost as much as the whole component: at worst states times edges. Memory is linear in the edges.
+/// A breadth-first search numbers the states from each entry in turn, and stops where it is greater than the best one: rows
+/// of outputs are compared first, in the order of the search and without writing them, and a state with a row that is not a
+/// least one decides where the best order has least rows; where all rows are the same, edges are compared side by side in
+/// both searches. The code is written once. So the cost is near linear in the edges where states differ in what is near
+/// them; at worst it is states times edges. Memory: 4 bytes for each different near edge, about 30 for each state, and a set
+/// of the exits.
 pub fn least_code(alloc: Global, piece: &Piece) -> Result<Coded, NoMemory>
     requires component { IsComponent (component piece.now) }
     requires connected { IsStronglyConnected (component piece.now) }
     ensures { IfOk result (λ coded. IsCoding (component piece.now) coded.0 coded.1) }
 {
-    let mut seen = vec![in alloc; false; piece.states as usize]?;
-    let Some(mut best) = race(alloc, piece, 0, None, &mut seen)? else {
-        unreachable!()
-    };
-    for entry in 1..piece.states {
-        if let Some(better) = race(alloc, piece, entry, Some(&best.code), &mut seen)? {
-            best = better;
-        }
-    }
-    let Written { code, places } = best;
+    let best = best_of(alloc, piece)?;
+    let code = write_code(alloc, piece, best.entry, &best.order)?;
     Ok(Coded {
         code: Arc::new(alloc, Code::of(code))?,
-        numbers: places,
+        numbers: best.order.places,
     })
 }
 

@@ -4,8 +4,11 @@
 mod code;
 mod fault;
 mod least;
+mod links;
+mod near;
+mod order;
 mod piece;
-mod race;
+mod rows;
 mod search;
 #[cfg(test)]
 mod tests;

@@ -1,21 +1,22 @@
 // The parts of a code.
 ghost use Rattle.std.specs.Prelude.{◌≡◌, ℕ, ◌+◌, ◌<◌, ◌≤◌, ◌^◌, ◌∷◌, ◌++◌, [], List, map, length, flat_map, All, IfOk, OnOk, true, false, option_map};
 ghost use Rattle.pt_sets.specs.declared.Exit.{Exit};
-ghost use Rattle.pt_sets.specs.Components.{StaysWithin, IsComponent, IsStronglyConnected, bit, exit_numbers, far_exits, exit_eq, states_in_order};
+ghost use Rattle.pt_sets.specs.Components.{StaysWithin, IsComponent, IsStronglyConnected, bit, exit_numbers, far_exits, exit_eq, states_in_order, exits_in_order, code_from};
 ghost use Rattle.indexmap.specs.IndexSet.{insert_all};
 ghost use Rattle.pt_code.specs.Component.{component};
 ghost use Rattle.pt_code.specs.Coding.{numbers_from};
-ghost use Rattle.pt_code.specs.Racing.{IsBetter, IsNoBetter, header_of, number_in};
+ghost use Rattle.pt_code.specs.Parts.{header_of, number_in, outputs_part, edges_part, exits_part};
 
 use crate::fault::NoMemory;
+use crate::order::Order;
 use crate::piece::Piece;
+use crate::search::{edges_of, outputs_of};
 use indexmap::IndexSet;
 use pt_sets::{Edge, Exit};
 use std::alloc::Global;
-use std::cmp::Ordering;
 
 /// The numbers before the outputs.
-pub(crate) fn header(alloc: Global, piece: &Piece) -> Result<Vec<u32>, NoMemory>
+fn header(alloc: Global, piece: &Piece) -> Result<Vec<u32>, NoMemory>
     ensures { IfOk result (λ numbers. numbers.items ≡ header_of (component piece.now)) }
 {
     let mut numbers = Vec::new(alloc);
@@ -26,7 +27,7 @@ pub(crate) fn header(alloc: Global, piece: &Piece) -> Result<Vec<u32>, NoMemory>
 }
 
 /// Writes the outputs of a state.
-pub(crate) fn write_outputs(outputs: &[bool], numbers: &mut Vec<u32>) -> Result<(), NoMemory>
+fn write_outputs(outputs: &[bool], numbers: &mut Vec<u32>) -> Result<(), NoMemory>
     ensures { OnOk result (numbers.new.items ≡ numbers.old.items ++ map bit outputs.now) }
 {
     for output in outputs {
@@ -36,7 +37,7 @@ pub(crate) fn write_outputs(outputs: &[bool], numbers: &mut Vec<u32>) -> Result<
 }
 
 /// Writes the edges of a state. An exit that is used for the first time gets the next number.
-pub(crate) fn write_edges(
+fn write_edges(
     edges: &[Edge],
     places: &[u32],
     states: u32,
@@ -77,36 +78,59 @@ pub(crate) fn write_exits(exits: &IndexSet<Exit>, numbers: &mut Vec<u32>) -> Res
     Ok(())
 }
 
-/// The number of each state in an order of search.
-pub(crate) fn places_in(
+/// Writes the outputs of states.
+fn write_rows(piece: &Piece, states: &[u32], numbers: &mut Vec<u32>) -> Result<(), NoMemory>
+    requires component { IsComponent (component piece.now) }
+    requires states { All (λ q. q < piece.now.states) states.now }
+    ensures { OnOk result (numbers.new.items ≡ numbers.old.items ++ outputs_part (component piece.now) states.now) }
+{
+    for state in states {
+        write_outputs(outputs_of(piece, *state), numbers)?;
+    }
+    Ok(())
+}
+
+/// Writes the edges of states, and collects their exits.
+fn write_links(
+    alloc: Global,
+    piece: &Piece,
+    order: &[u32],
+    places: &[u32],
+    numbers: &mut Vec<u32>,
+) -> Result<IndexSet<Exit>, NoMemory>
+    requires component { IsComponent (component piece.now) }
+    requires order { All (λ q. q < piece.now.states) order.now }
+    requires few { length order.now ≤ 65536 }
+    requires places { length places.now ≡ piece.now.states }
+    ensures written { OnOk result (numbers.new.items ≡ numbers.old.items ++ edges_part (component piece.now) places.now (exits_in_order (component piece.now) order.now) order.now) }
+    ensures found { IfOk result (λ found. found.keys ≡ exits_in_order (component piece.now) order.now) }
+    ensures few { IfOk result (λ found. length found.keys ≤ 67108864) }
+{
+    let mut found = IndexSet::new(alloc);
+    for state in order {
+        let edges = edges_of(piece, *state);
+        write_edges(edges, places, piece.states, &mut found, numbers)?;
+    }
+    Ok(found)
+}
+
+/// The code in the order from an entry.
+pub(crate) fn write_code(
     alloc: Global,
     piece: &Piece,
     entry: u32,
-    order: &[u32],
+    order: &Order,
 ) -> Result<Vec<u32>, NoMemory>
     requires component { IsComponent (component piece.now) }
     requires connected { IsStronglyConnected (component piece.now) }
     requires entry { entry < piece.now.states }
-    requires order { order.now ≡ states_in_order (component piece.now) entry }
-    ensures { IfOk result (λ places. places.items ≡ numbers_from (component piece.now) entry) }
+    requires order { order.now.states.items ≡ states_in_order (component piece.now) entry }
+    requires places { order.now.places.items ≡ numbers_from (component piece.now) entry }
+    ensures { IfOk result (λ numbers. numbers.items ≡ code_from (component piece.now) entry) }
 {
-    let mut places = vec![in alloc; 0u32; piece.states as usize]?;
-    for (number, state) in order.iter().enumerate() {
-        places[*state as usize] = number as u32;
-    }
-    Ok(places)
-}
-
-/// Whether a code is less than the best one.
-pub(crate) fn is_better(best: Option<&[u32]>, numbers: &[u32]) -> bool
-    ensures better { result ≡ true → IsBetter (option_map (λ b. b.now) best.entry) numbers.now }
-    ensures no_better { result ≡ false → IsNoBetter (option_map (λ b. b.now) best.entry) numbers.now }
-{
-    match best {
-        Some(best) => match best.cmp(&numbers) {
-            Ordering::Greater => true,
-            _ => false,
-        },
-        None => true,
-    }
+    let mut numbers = header(alloc, piece)?;
+    write_rows(piece, &order.states, &mut numbers)?;
+    let exits = write_links(alloc, piece, &order.states, &order.places, &mut numbers)?;
+    write_exits(&exits, &mut numbers)?;
+    Ok(numbers)
 }

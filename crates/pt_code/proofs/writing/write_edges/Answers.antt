@@ -6,7 +6,7 @@ use Rattle.pt_sets.specs.declared.Exit.{Exit}
 use Rattle.pt_sets.specs.declared.Edge.{Edge}
 use Rattle.pt_sets.specs.declared.Edge.TheVariants.{Near}
 use Rattle.pt_sets.specs.Components.{exit_eq}
-use Rattle.pt_code.specs.Racing.{number_in}
+use Rattle.pt_code.specs.Parts.{number_in}
 use Rattle.pt_code.proofs.Exits.{near-found, near-written, far-found, far-written, insert-few, inserted-as, placed-as, compares-exits}
 use Rattle.pt_code.proofs.writing.write_edges.Goals as goal
 use Rattle.pt_code.proofs.writing.write_edges.Goals.{in-Near, in-Far+in_ok-index-in-Far}

@@ -2,7 +2,7 @@ use Rattle.std.proofs.Common.{◌≡◌, ◌+◌, ◌≤◌, ◌++◌, List, map
 use Rattle.indexmap.specs.IndexSet.{insert_all}
 use Rattle.pt_sets.specs.declared.Exit.{Exit}
 use Rattle.pt_sets.specs.Components.{far_exits, exit_eq}
-use Rattle.pt_code.specs.Racing.{number_in}
+use Rattle.pt_code.specs.Parts.{number_in}
 use Rattle.pt_code.proofs.writing.write_edges.Given as goal
 
 abbrev pub invariant-loop-edge : goal.invariant-loop-edge

@@ -1,0 +1,110 @@
+// States in the order in which a search meets them.
+ghost use Rattle.std.specs.Prelude.{◌≡◌, ◌<◌, ◌≤◌, ◌==◌, [], true, false, vec_len, All, IfOk, OnOk, MatchOption};
+ghost use Rattle.std.specs.List.{list_any, position_or_len};
+ghost use Rattle.pt_sets.specs.Components.{StaysWithin, near_states};
+ghost use Rattle.pt_code.specs.Searching.{IsNumbered, visit_one, visit_all};
+
+use crate::fault::NoMemory;
+use pt_sets::Edge;
+use std::alloc::Global;
+
+/// States, each once, and the place of each among them. A state is there exactly if the place that is noted for it holds
+/// it, so nothing has to be reset where an order begins anew (Briggs and Torczon, "An Efficient Representation for Sparse
+/// Sets", 1993).
+#[derive(Drop)]
+pub(crate) struct Order {
+    pub(crate) states: Vec<u32>,
+    pub(crate) places: Vec<u32>,
+}
+
+impl Order {
+    /// No states, with places for so many.
+    pub(crate) fn new(alloc: Global, count: u32) -> Result<Order, NoMemory>
+        ensures empty { IfOk result (λ order. order.states.items ≡ []) }
+        ensures room { IfOk result (λ order. vec_len order.places ≡ count) }
+    {
+        Ok(Order {
+            states: Vec::new(alloc),
+            places: vec![in alloc; 0u32; count as usize]?,
+        })
+    }
+
+    /// The place of a state, where it is there.
+    fn place_of(&self, state: u32) -> Option<u32>
+        requires state { state < vec_len self.now.places }
+        requires numbered { IsNumbered self.now.states.items self.now.places.items }
+        ensures met { MatchOption result (list_any (◌==◌ state) self.now.states.items ≡ false) (λ place. list_any (◌==◌ state) self.now.states.items ≡ true) }
+        ensures place { MatchOption result (position_or_len (◌==◌ state) self.now.states.items ≡ vec_len self.now.states) (λ place. place ≡ position_or_len (◌==◌ state) self.now.states.items) }
+    {
+        let place = self.places[state as usize];
+        if (place as usize) < self.states.len() {
+            if self.states[place as usize] == state {
+                return Some(place);
+            }
+        }
+        None
+    }
+
+    /// The place of a state, which goes behind those that are there unless it is one of them.
+    pub(crate) fn number(&mut self, state: u32) -> Result<u32, NoMemory>
+        requires state { state < vec_len self.old.places }
+        requires few { vec_len self.old.places ≤ 65536 }
+        requires numbered { IsNumbered self.old.states.items self.old.places.items }
+        ensures states { OnOk result (self.new.states.items ≡ visit_one self.old.states.items state) }
+        ensures place { IfOk result (λ place. place ≡ position_or_len (◌==◌ state) self.old.states.items) }
+        ensures numbered { OnOk result (IsNumbered self.new.states.items self.new.places.items) }
+        ensures room { vec_len self.new.places ≡ vec_len self.old.places }
+    {
+        if let Some(place) = self.place_of(state) {
+            return Ok(place);
+        }
+        let place = self.states.len() as u32;
+        self.states.push(state)?;
+        self.places[state as usize] = place;
+        Ok(place)
+    }
+
+    /// Begins anew with one state.
+    pub(crate) fn begin(&mut self, entry: u32) -> Result<(), NoMemory>
+        requires entry { entry < vec_len self.old.places }
+        requires few { vec_len self.old.places ≤ 65536 }
+        ensures states { OnOk result (self.new.states.items ≡ visit_one [] entry) }
+        ensures numbered { OnOk result (IsNumbered self.new.states.items self.new.places.items) }
+        ensures room { vec_len self.new.places ≡ vec_len self.old.places }
+    {
+        self.states.clear();
+        self.number(entry)?;
+        Ok(())
+    }
+
+    /// Meets states.
+    pub(crate) fn visit(&mut self, states: &[u32]) -> Result<(), NoMemory>
+        requires within { All (λ q. q < vec_len self.old.places) states.now }
+        requires few { vec_len self.old.places ≤ 65536 }
+        requires numbered { IsNumbered self.old.states.items self.old.places.items }
+        ensures states { OnOk result (self.new.states.items ≡ visit_all self.old.states.items states.now) }
+        ensures numbered { OnOk result (IsNumbered self.new.states.items self.new.places.items) }
+        ensures room { vec_len self.new.places ≡ vec_len self.old.places }
+    {
+        for state in states {
+            self.number(*state)?;
+        }
+        Ok(())
+    }
+
+    /// Begins anew with the states that edges lead to.
+    pub(crate) fn begin_behind(&mut self, edges: &[Edge]) -> Result<(), NoMemory>
+        requires within { All (StaysWithin (vec_len self.old.places)) edges.now }
+        requires few { vec_len self.old.places ≤ 65536 }
+        ensures states { OnOk result (self.new.states.items ≡ visit_all [] (near_states edges.now)) }
+        ensures room { vec_len self.new.places ≡ vec_len self.old.places }
+    {
+        self.states.clear();
+        for edge in edges {
+            if let Edge::Near(state) = *edge {
+                self.number(state)?;
+            }
+        }
+        Ok(())
+    }
+}

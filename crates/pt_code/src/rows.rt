@@ -1,0 +1,189 @@
+// Rows of outputs that are compared in the order of a search.
+ghost use Rattle.std.specs.Prelude.{◌≡◌, ◌≢◌, ℕ, ◌<◌, ◌≤◌, false, IsTrue, IfOk, OnOk, All, length, vec_len, slice_index, slice_index_or};
+ghost use Rattle.std.specs.Ordering.{nat_cmp, is_gt};
+ghost use Rattle.std.specs.Cmp.Lexicographic.{slice_cmp};
+ghost use Rattle.pt_sets.specs.Components.{IsComponent, IsStronglyConnected, states_in_order};
+ghost use Rattle.pt_code.specs.Component.{component};
+ghost use Rattle.pt_code.specs.Parts.{IsHighs, IsVerdict, row_of, outputs_part};
+ghost use Rattle.pt_code.specs.Searching.{IsNear};
+
+use crate::fault::NoMemory;
+use crate::near::Near;
+use crate::order::Order;
+use crate::piece::Piece;
+use crate::search::outputs_of;
+use std::alloc::Global;
+use std::cmp::Ordering;
+
+/// How the outputs of two states compare, sign by sign.
+fn compare_outputs(piece: &Piece, state: u32, other: u32) -> Ordering
+    requires component { IsComponent (component piece.now) }
+    requires state { state < piece.now.states }
+    requires other { other < piece.now.states }
+    ensures { result ≡ slice_cmp nat_cmp (row_of (component piece.now) state) (row_of (component piece.now) other) }
+{
+    let (row, other_row) = (outputs_of(piece, state), outputs_of(piece, other));
+    row.cmp(&other_row)
+}
+
+/// One of two states whose row of outputs is not greater than that of the other.
+fn lower_of(piece: &Piece, low: u32, state: u32) -> u32
+    requires component { IsComponent (component piece.now) }
+    requires low { low < piece.now.states }
+    requires state { state < piece.now.states }
+    ensures within { result < piece.now.states }
+    ensures low { slice_cmp nat_cmp (row_of (component piece.now) result) (row_of (component piece.now) low) ≢ Ordering.Greater }
+    ensures state { slice_cmp nat_cmp (row_of (component piece.now) result) (row_of (component piece.now) state) ≢ Ordering.Greater }
+{
+    match compare_outputs(piece, low, state) {
+        Ordering::Greater => state,
+        _ => low,
+    }
+}
+
+/// A state whose row of outputs is a least one.
+fn lowest(piece: &Piece) -> u32
+    requires component { IsComponent (component piece.now) }
+    ensures within { result < piece.now.states }
+    ensures least { (q : ℕ) → q < piece.now.states → slice_cmp nat_cmp (row_of (component piece.now) result) (row_of (component piece.now) q) ≢ Ordering.Greater }
+{
+    let mut low = 0;
+    for state in 1..piece.states {
+        low = lower_of(piece, low, state);
+    }
+    low
+}
+
+/// Whether a state has a greater row of outputs than another.
+fn is_higher(piece: &Piece, state: u32, low: u32) -> bool
+    requires component { IsComponent (component piece.now) }
+    requires state { state < piece.now.states }
+    requires low { low < piece.now.states }
+    ensures { result ≡ is_gt (slice_cmp nat_cmp (row_of (component piece.now) state) (row_of (component piece.now) low)) }
+{
+    compare_outputs(piece, state, low).is_gt()
+}
+
+/// For each state whether its row of outputs is not a least one.
+pub(crate) fn highs_of(alloc: Global, piece: &Piece) -> Result<Vec<bool>, NoMemory>
+    requires component { IsComponent (component piece.now) }
+    ensures { IfOk result (λ highs. IsHighs (component piece.now) highs.items) }
+{
+    let low = lowest(piece);
+    let mut highs = Vec::new(alloc);
+    for state in 0..piece.states {
+        highs.push(is_higher(piece, state, low))?;
+    }
+    Ok(highs)
+}
+
+/// Whether no state is high.
+pub(crate) fn is_flat(highs: &[bool]) -> bool
+    ensures { IsTrue result → (q : ℕ) → q < length highs.now → slice_index_or highs.now q false ≡ false }
+{
+    for high in highs {
+        if *high {
+            return false;
+        }
+    }
+    true
+}
+
+/// The best entry so far: the states in the order from it, and how many of the first of them are not high.
+#[derive(Drop)]
+pub(crate) struct Best {
+    pub(crate) entry: u32,
+    pub(crate) order: Order,
+    pub(crate) run: usize,
+}
+
+/// How many states are not high before the first that is.
+pub(crate) fn run_of(highs: &[bool], states: &[u32]) -> usize
+    requires within { All (λ q. q < length highs.now) states.now }
+    ensures within { result ≤ length states.now }
+    ensures low { (n : ℕ) → n < result → slice_index_or highs.now (slice_index states.now n) false ≡ false }
+{
+    for (number, state) in states.iter().enumerate() {
+        if highs[*state as usize] {
+            return number;
+        }
+    }
+    states.len()
+}
+
+/// How the row of a state compares with that of the state at a place of the best order. Within the run that one is a least
+/// row, so no numbers have to be read.
+fn compare_at(piece: &Piece, highs: &[bool], best: &Best, place: usize, state: u32) -> Ordering
+    requires component { IsComponent (component piece.now) }
+    requires highs { IsHighs (component piece.now) highs.now }
+    requires within { All (λ q. q < piece.now.states) best.now.order.states.items }
+    requires run { (n : ℕ) → n < best.now.run → slice_index_or highs.now (slice_index best.now.order.states.items n) false ≡ false }
+    requires place { place < vec_len best.now.order.states }
+    requires state { state < piece.now.states }
+    ensures { result ≡ slice_cmp nat_cmp (row_of (component piece.now) state) (row_of (component piece.now) (slice_index best.now.order.states.items place)) }
+{
+    if place < best.run {
+        if highs[state as usize] {
+            return Ordering::Greater;
+        }
+        return Ordering::Equal;
+    }
+    compare_outputs(piece, state, best.order.states[place])
+}
+
+/// How the rows of states compare with those of the best order, where those before a place are the same.
+fn compare_from(piece: &Piece, highs: &[bool], best: &Best, states: &[u32], from: usize) -> Ordering
+    requires component { IsComponent (component piece.now) }
+    requires highs { IsHighs (component piece.now) highs.now }
+    requires within { All (λ q. q < piece.now.states) best.now.order.states.items }
+    requires run { (n : ℕ) → n < best.now.run → slice_index_or highs.now (slice_index best.now.order.states.items n) false ≡ false }
+    requires states { All (λ q. q < piece.now.states) states.now }
+    requires few { length states.now ≤ vec_len best.now.order.states }
+    requires from { from ≤ length states.now }
+    requires same { (i : ℕ) → i < from → row_of (component piece.now) (slice_index states.now i) ≡ row_of (component piece.now) (slice_index best.now.order.states.items i) }
+    ensures { IsVerdict (λ i. row_of (component piece.now) (slice_index states.now i)) (λ i. row_of (component piece.now) (slice_index best.now.order.states.items i)) (length states.now) result }
+{
+    for place in from..states.len() {
+        let order = compare_at(piece, highs, best, place, states[place]);
+        let Ordering::Equal = order else {
+            return order;
+        };
+    }
+    Ordering::Equal
+}
+
+/// How the outputs in the order from an entry compare with those in the best order. Breadth first, and only as far as they
+/// are the same.
+pub(crate) fn compare_rows(
+    piece: &Piece,
+    near: &Near,
+    highs: &[bool],
+    best: &Best,
+    entry: u32,
+    order: &mut Order,
+) -> Result<Ordering, NoMemory>
+    requires component { IsComponent (component piece.now) }
+    requires connected { IsStronglyConnected (component piece.now) }
+    requires near { IsNear (component piece.now) near.now.starts.items near.now.targets.items }
+    requires highs { IsHighs (component piece.now) highs.now }
+    requires run { (n : ℕ) → n < best.now.run → slice_index_or highs.now (slice_index best.now.order.states.items n) false ≡ false }
+    requires best_entry { best.now.entry < piece.now.states }
+    requires best { best.now.order.states.items ≡ states_in_order (component piece.now) best.now.entry }
+    requires entry { entry < piece.now.states }
+    requires room { vec_len order.old.places ≡ piece.now.states }
+    ensures order { IfOk result (λ o. o ≡ slice_cmp nat_cmp (outputs_part (component piece.now) (states_in_order (component piece.now) entry)) (outputs_part (component piece.now) (states_in_order (component piece.now) best.now.entry))) }
+    ensures room { vec_len order.new.places ≡ vec_len order.old.places }
+{
+    order.begin(entry)?;
+    let mut compared = 0;
+    for next in 0..piece.states as usize {
+        let verdict = compare_from(piece, highs, best, &order.states, compared);
+        let Ordering::Equal = verdict else {
+            return Ok(verdict);
+        };
+        compared = order.states.len();
+        let state = order.states[next];
+        order.visit(near.of(state))?;
+    }
+    Ok(Ordering::Equal)
+}
