@@ -2,15 +2,26 @@
 #![tactic(auto)]
 
 mod fault;
+mod hashed;
+mod indexed;
+mod laws;
 mod local;
 mod shard;
 mod spread;
 mod traits;
 
 pub use fault::{JoinRefused, NoMemory, StoreFault};
+pub use hashed::HashedCode;
+pub use laws::{
+    agreeing_lists_begin_one_another, first_positions_stay, full_lists_stay_full,
+    lists_are_joined_shard_by_shard,
+};
 pub use local::{LocalPass, LocalStore};
+pub use shard::{MAX_CODES, Shard};
 pub use spread::{Mixed, OneShard};
 pub use traits::{Codes, Interner, Sharing, Spread};
 
+#[cfg(test)]
+mod shard_tests;
 #[cfg(test)]
 mod tests;

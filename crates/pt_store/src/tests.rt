@@ -43,10 +43,7 @@ where
     ensures extends { Extends (I.Pass.lists pass.old) (I.Pass.lists pass.new) }
     ensures found { IfOk result (λ place. find I.Pass.home (I.Pass.lists pass.new) (arc_value code) ≡ Some place) }
 {
-    let mut other = match store.split(alloc, pass) {
-        Ok(other) => other,
-        Err(_) => return Err(StoreFault::NoMemory),
-    };
+    let mut other = store.split(alloc, pass)?;
     let place = store.intern(alloc, &mut other, code)?;
     match store.join(alloc, pass, other) {
         Ok(()) => Ok(place),
@@ -99,10 +96,15 @@ fn codes_stand_in_their_homes(rt: HostRuntime) -> Result<(), Fail> {
     let alloc = rt.alloc();
     let (store, mut pass) = LocalStore::new(alloc, 16, 1, Mixed)?;
     let code = shared(alloc, &NONE)?;
+    let (shard, index) = (7, 0);
+    assert!(rt; Mixed.shard(&code, 16) == shard && Mixed.shard(&code, 256) == 39);
+    assert!(rt; OneShard.shard(&code, 16) == 0);
     assert!(rt; pass.find(&code) == None);
     let place = store.intern(alloc, &mut pass, shared(alloc, &NONE)?)?;
-    assert!(rt; pass.find(&code) == Some(place) && place.shard < 16 && place.index == 0);
-    assert!(rt; pass.code(place).is_some() && pass.shards() == 16 && store.limit() == 1);
+    assert!(rt; place == Place { shard, index } && pass.find(&code) == Some(place));
+    assert!(rt; pass.code(place).map(|found| **found == *code) == Some(true));
+    assert!(rt; pass.shards() == 16 && pass.count(shard) == 1 && pass.count(8) == 0);
+    assert!(rt; store.limit() == 1 && pass.offers() == 1);
     assert!(rt;
         pass.code(Place {
             shard: 16,
