@@ -132,6 +132,7 @@ module _ (home : Home) (lists : Lists) (t : ℕ) (root : Place) (known : KnowsPl
       let some : 0 < total = omega arith in
       let automaton = valid some in
       record {
+        valid = automaton;
         tracks = refl;
         in_range = in_start;
         set = same-language-same-set t (language_of table entry) (language_in lists start) (same-is entry start at_start);

@@ -1,4 +1,5 @@
 pub mod One
+pub mod Lasting
 pub mod InRow
 pub mod Few
 pub mod Parts
@@ -8,6 +9,7 @@ pub mod PartWork
 pub mod Queues
 pub mod Adopted
 pub mod Residuals
+pub mod FewStates
 pub mod Rowing
 pub mod Expanded
 pub mod Absent

@@ -42,7 +42,6 @@ pub fn adopt<R: Threads + Sync, I: Interner>(
         Ok(reduced) => reduced,
         Err(_) => return Err(StoreFault::NoMemory),
     };
-    let _valid = table.states();
     let class = reduced.class(start);
     adopt_reduced(alloc, store, pass, reduced.table(), class)
 }
@@ -140,7 +139,7 @@ fn adopt_part<I: Interner>(
     ensures full { IfErr result (λ fault. (start : ℕ) → start < table.now.states → AreReached table.now start marks.now → FullOnlyWhereLacking I.Pass.home (I.limit_of store.now) (I.Pass.lists pass.new) table.now.tracks (SetOfState table.now start) fault) }
     ensures offers { I.Pass.offered pass.new ≤ I.Pass.offered pass.old + 1 }
 {
-    let _valid = table.states();
+    table.is_automaton();
     let part = parts[i].as_slice();
     if !marks[part[0] as usize] {
         return Ok(());

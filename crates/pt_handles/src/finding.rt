@@ -13,7 +13,7 @@ use pt_code::{Edge, least_code};
 use pt_refine::reduce;
 use pt_scc::components;
 use pt_store::Codes;
-use pt_tables::Table;
+use pt_tables::{NoMemory, Table};
 use std::alloc::{AllocError, AllocFailed, Global};
 use std::thread::Threads;
 
@@ -24,6 +24,22 @@ pub(crate) enum Stop {
     Unknown,
     /// There is no memory.
     NoMemory,
+}
+
+impl From<NoMemory> for Stop {
+    ghost from_gives = { λ error stop. stop ≡ no_memory_to_find };
+
+    fn from(_error: NoMemory) -> Self {
+        Stop::NoMemory
+    }
+}
+
+impl From<pt_code::NoMemory> for Stop {
+    ghost from_gives = { λ error stop. stop ≡ no_memory_to_find };
+
+    fn from(_error: pt_code::NoMemory) -> Self {
+        Stop::NoMemory
+    }
 }
 
 impl From<AllocError> for Stop {
@@ -54,11 +70,7 @@ pub(crate) fn find_set<R: Threads + Sync, P: Codes>(
     ensures ok { IfOk result (Has P.home (P.lists pass.now) table.now.tracks (SetOfState table.now start)) }
     ensures err { IfErr result (Refutes (KnowsSet P.home (P.lists pass.now) table.now.tracks (SetOfState table.now start))) }
 {
-    let reduced = match reduce(rt, alloc, table) {
-        Ok(reduced) => reduced,
-        Err(_) => return Err(Stop::NoMemory),
-    };
-    let _valid = table.states();
+    let reduced = reduce(rt, alloc, table)?;
     let class = reduced.class(start);
     find_reduced(alloc, pass, reduced.table(), class)
 }
@@ -75,14 +87,8 @@ fn find_reduced<P: Codes>(
     ensures ok { IfOk result (Has P.home (P.lists pass.now) table.now.tracks (SetOfState table.now start)) }
     ensures err { IfErr result (Refutes (KnowsSet P.home (P.lists pass.now) table.now.tracks (SetOfState table.now start))) }
 {
-    let parts = match components(alloc, table) {
-        Ok(parts) => parts,
-        Err(_) => return Err(Stop::NoMemory),
-    };
-    let marks = match reached_states(alloc, table, start) {
-        Ok(marks) => marks,
-        Err(_) => return Err(Stop::NoMemory),
-    };
+    let parts = components(alloc, table)?;
+    let marks = reached_states(alloc, table, start)?;
     let targets = match find_parts(alloc, pass, table, &parts, &marks) {
         Ok(targets) => targets,
         Err(stop) => return Err(stop),
@@ -111,10 +117,7 @@ fn find_parts<P: Codes>(
     ensures ok { IfOk result (λ targets. ArePlaced P.home (P.lists pass.now) table.now (lists_of parts.now) marks.now (length parts.now) targets.items) }
     ensures err { IfErr result (λ stop. (start : ℕ) → start < table.now.states → AreReached table.now start marks.now → Refutes (KnowsSet P.home (P.lists pass.now) table.now.tracks (SetOfState table.now start)) stop) }
 {
-    let mut targets = match vec![in alloc; Edge::Near(0); table.states() as usize] {
-        Ok(targets) => targets,
-        Err(_) => return Err(Stop::NoMemory),
-    };
+    let mut targets = vec![in alloc; Edge::Near(0); table.states() as usize]?;
     for i in 0..parts.len() {
         if let Err(stop) = find_part(alloc, pass, table, parts, marks, i, &mut targets) {
             return Err(stop);
@@ -141,20 +144,14 @@ fn find_part<P: Codes>(
     ensures ok { OnOk result (ArePlaced P.home (P.lists pass.now) table.now (lists_of parts.now) marks.now (i + 1) targets.new.items) }
     ensures err { IfErr result (λ stop. (start : ℕ) → start < table.now.states → AreReached table.now start marks.now → Refutes (KnowsSet P.home (P.lists pass.now) table.now.tracks (SetOfState table.now start)) stop) }
 {
-    let _valid = table.states();
+    table.is_automaton();
     let part = parts[i].as_slice();
     if !marks[part[0] as usize] {
         return Ok(());
     }
     number_part(targets, part);
-    let piece = match piece_of(alloc, pass, table, part, targets) {
-        Ok(piece) => piece,
-        Err(_) => return Err(Stop::NoMemory),
-    };
-    let coded = match least_code(alloc, &piece) {
-        Ok(coded) => coded,
-        Err(_) => return Err(Stop::NoMemory),
-    };
+    let piece = piece_of(alloc, pass, table, part, targets)?;
+    let coded = least_code(alloc, &piece)?;
     let place = match pass.find(coded.code()) {
         Some(place) => place,
         None => return Err(Stop::Unknown),

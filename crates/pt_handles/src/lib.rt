@@ -22,7 +22,8 @@ pub use handle::Handle;
 pub use knowing::knows;
 pub use laws::{
     equal_sets_are_equal_handles, full_lists_lack, interned_components_are_known,
-    longer_lists_know, longer_lists_lack, reached_handles_are_residuals,
+    joined_lists_know, known_sets_have_few_residuals, longer_lists_know, longer_lists_lack,
+    reached_handles_are_residuals,
 };
 pub use reads::{output, step};
 

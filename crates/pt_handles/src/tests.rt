@@ -1,5 +1,6 @@
 // Sets of single numbers, made known in different orders.
 ghost use Rattle.pt_store.specs.Local.{Owns};
+ghost use Rattle.pt_store.specs.Spreading.{first_shard};
 
 use crate::*;
 use pt_code::Place;
@@ -28,7 +29,7 @@ fn table_of(alloc: Global, ends: &[u32], state: u32, sign: u16) -> Result<Table,
         }
     }
     builder.output(state, sign, true);
-    Ok(builder.finish()?)
+    Ok(builder.finish(alloc)?)
 }
 
 /// The table of {n}: state 0 is empty, state k + 1 has the digits from k on, and the last state is {0}.
@@ -56,8 +57,8 @@ fn adopt_number<R: Threads + Sync>(
     pass: &mut LocalPass<OneShard>,
     n: u32,
 ) -> Result<Handle, Fail>
-    requires { Owns store.now pass.old }
-    ensures { Owns store.now pass.new }
+    requires { Owns first_shard store.now pass.old }
+    ensures { Owns first_shard store.now pass.new }
 {
     let table = number_table(alloc, n)?;
     if table.states() < 2 {
@@ -71,7 +72,7 @@ fn zero_stands_above_the_empty_set(rt: HostRuntime) -> Result<(), Fail> {
     let alloc = rt.alloc();
     let (store, mut pass) = LocalStore::new(alloc, 1, 9, OneShard)?;
     let table = table_of(alloc, &[0, 1, 1, 1], 0, 0)?;
-    let _states = table.states();
+    table.is_automaton();
     let zero = adopt(&rt, alloc, &store, &mut pass, &table, 0)?;
     let place = Place { shard: 0, index: 1 };
     assert_eq!(rt;
@@ -84,6 +85,15 @@ fn zero_stands_above_the_empty_set(rt: HostRuntime) -> Result<(), Fail> {
     );
     let (reached, start) = expand(alloc, &pass, zero)?;
     assert_eq!(rt; (reached.states(), start), (2, 0));
+    if zero.tracks != 1 {
+        return Err("tracks")?;
+    }
+    let none = Handle {
+        place: Place { shard: 0, index: 0 },
+        ..zero
+    };
+    assert!(rt; step(&pass, zero, 0) == zero && step(&pass, zero, 1) == none);
+    assert!(rt; output(&pass, zero, 0) && !output(&pass, zero, 1));
     assert_eq!(rt; adopt_number(&rt, alloc, &store, &mut pass, 0)?, zero);
     Ok(())
 }

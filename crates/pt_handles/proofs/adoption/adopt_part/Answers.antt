@@ -15,61 +15,61 @@ use Rattle.pt_handles.proofs.adoption.adopt_part.Goals as goal
 
 pub bounds-part-0 : goal.bounds-part-0
 bounds-part-0 g c =
-    let work = begin c.args.table.now c.args.parts.now c.args.marks.now c.args.i c.index-parts-i.result c.as_slice-part.result.now c.states-valid.ensures.valid c.requires.reduced c.requires.parts c.requires.reached c.requires.part c.index-parts-i.is c.as_slice-part.ensures.value in
+    let work = begin c.args.table.now c.args.parts.now c.args.marks.now c.args.i c.index-parts-i.result c.as_slice-part.result.now c.is_automaton.ensures c.requires.reduced c.requires.parts c.requires.reached c.requires.part c.index-parts-i.is c.as_slice-part.ensures.value in
     (work-part work).some
 
 pub bounds-marks-part : goal.bounds-marks-part
 bounds-marks-part g c =
-    let work = begin c.args.table.now c.args.parts.now c.args.marks.now c.args.i c.index-parts-i.result c.as_slice-part.result.now c.states-valid.ensures.valid c.requires.reduced c.requires.parts c.requires.reached c.requires.part c.index-parts-i.is c.as_slice-part.ensures.value in
+    let work = begin c.args.table.now c.args.parts.now c.args.marks.now c.args.i c.index-parts-i.result c.as_slice-part.result.now c.is_automaton.ensures c.requires.reduced c.requires.parts c.requires.reached c.requires.part c.index-parts-i.is c.as_slice-part.ensures.value in
     work-first work
 
 pub returns-then-not-marks-part-clause-ok : goal.returns-then-not-marks-part-clause-ok
 returns-then-not-marks-part-clause-ok g c =
-    let work = begin c.args.table.now c.args.parts.now c.args.marks.now c.args.i c.index-parts-i.result c.as_slice-part.result.now c.states-valid.ensures.valid c.requires.reduced c.requires.parts c.requires.reached c.requires.part c.index-parts-i.is c.as_slice-part.ensures.value in
+    let work = begin c.args.table.now c.args.parts.now c.args.marks.now c.args.i c.index-parts-i.result c.as_slice-part.result.now c.is_automaton.ensures c.requires.reduced c.requires.parts c.requires.reached c.requires.part c.index-parts-i.is c.as_slice-part.ensures.value in
     work-skip work c.requires.placed c.if-not-marks-part.true
 
 pub number_part-requires-clause-part : goal.number_part-requires-clause-part
 number_part-requires-clause-part g c =
-    let work = begin c.args.table.now c.args.parts.now c.args.marks.now c.args.i c.index-parts-i.result c.as_slice-part.result.now c.states-valid.ensures.valid c.requires.reduced c.requires.parts c.requires.reached c.requires.part c.index-parts-i.is c.as_slice-part.ensures.value in
+    let work = begin c.args.table.now c.args.parts.now c.args.marks.now c.args.i c.index-parts-i.result c.as_slice-part.result.now c.is_automaton.ensures c.requires.reduced c.requires.parts c.requires.reached c.requires.part c.index-parts-i.is c.as_slice-part.ensures.value in
     work-targets work c.requires.placed
 
 pub number_part-requires-clause-few : goal.number_part-requires-clause-few
 number_part-requires-clause-few g c =
-    let work = begin c.args.table.now c.args.parts.now c.args.marks.now c.args.i c.index-parts-i.result c.as_slice-part.result.now c.states-valid.ensures.valid c.requires.reduced c.requires.parts c.requires.reached c.requires.part c.index-parts-i.is c.as_slice-part.ensures.value in
+    let work = begin c.args.table.now c.args.parts.now c.args.marks.now c.args.i c.index-parts-i.result c.as_slice-part.result.now c.is_automaton.ensures c.requires.reduced c.requires.parts c.requires.reached c.requires.part c.index-parts-i.is c.as_slice-part.ensures.value in
     work-few work
 
 pub piece_of-requires-clause-part : goal.piece_of-requires-clause-part
 piece_of-requires-clause-part g c =
-    let work = begin c.args.table.now c.args.parts.now c.args.marks.now c.args.i c.index-parts-i.result c.as_slice-part.result.now c.states-valid.ensures.valid c.requires.reduced c.requires.parts c.requires.reached c.requires.part c.index-parts-i.is c.as_slice-part.ensures.value in
+    let work = begin c.args.table.now c.args.parts.now c.args.marks.now c.args.i c.index-parts-i.result c.as_slice-part.result.now c.is_automaton.ensures c.requires.reduced c.requires.parts c.requires.reached c.requires.part c.index-parts-i.is c.as_slice-part.ensures.value in
     work-part work
 
 pub piece_of-requires-clause-few : goal.piece_of-requires-clause-few
 piece_of-requires-clause-few g c =
-    let work = begin c.args.table.now c.args.parts.now c.args.marks.now c.args.i c.index-parts-i.result c.as_slice-part.result.now c.states-valid.ensures.valid c.requires.reduced c.requires.parts c.requires.reached c.requires.part c.index-parts-i.is c.as_slice-part.ensures.value in
+    let work = begin c.args.table.now c.args.parts.now c.args.marks.now c.args.i c.index-parts-i.result c.as_slice-part.result.now c.is_automaton.ensures c.requires.reduced c.requires.parts c.requires.reached c.requires.part c.index-parts-i.is c.as_slice-part.ensures.value in
     work-few work
 
 pub piece_of-requires-clause-codes : goal.piece_of-requires-clause-codes
 piece_of-requires-clause-codes g c =
-    let work = begin c.args.table.now c.args.parts.now c.args.marks.now c.args.i c.index-parts-i.result c.as_slice-part.result.now c.states-valid.ensures.valid c.requires.reduced c.requires.parts c.requires.reached c.requires.part c.index-parts-i.is c.as_slice-part.ensures.value in
+    let work = begin c.args.table.now c.args.parts.now c.args.marks.now c.args.i c.index-parts-i.result c.as_slice-part.result.now c.is_automaton.ensures c.requires.reduced c.requires.parts c.requires.reached c.requires.part c.index-parts-i.is c.as_slice-part.ensures.value in
     λ k l e in_k letter far. work-codes work c.requires.placed c.if-not-marks-part.false c.number_part.ensures k l e in_k letter (ap (λ (ts : List Edge). slice_index_or ts (next_of c.args.table.now (slice_index c.as_slice-part.result.now k) l) (Near 0)) (sym c.deref.ensures.value) ∙ far)
 
 pub least_code-requires-clause-component : goal.least_code-requires-clause-component
 least_code-requires-clause-component g c =
-    let work = begin c.args.table.now c.args.parts.now c.args.marks.now c.args.i c.index-parts-i.result c.as_slice-part.result.now c.states-valid.ensures.valid c.requires.reduced c.requires.parts c.requires.reached c.requires.part c.index-parts-i.is c.as_slice-part.ensures.value in
+    let work = begin c.args.table.now c.args.parts.now c.args.marks.now c.args.i c.index-parts-i.result c.as_slice-part.result.now c.is_automaton.ensures c.requires.reduced c.requires.parts c.requires.reached c.requires.part c.index-parts-i.is c.as_slice-part.ensures.value in
     let piece : IsPieceOf (g.I.Pass.Codes.lists c.args.pass.now) c.args.table.now c.as_slice-part.result.now c.number_part.new.targets.items (component c.in-Ok.piece) =
     subst (λ (ts : List Edge). IsPieceOf (g.I.Pass.Codes.lists c.args.pass.now) c.args.table.now c.as_slice-part.result.now ts (component c.in-Ok.piece)) c.deref.ensures.value c.in-Ok.ensures in
     (work-realizes work c.requires.placed c.if-not-marks-part.false c.number_part.ensures piece).component
 
 pub least_code-requires-clause-connected : goal.least_code-requires-clause-connected
 least_code-requires-clause-connected g c =
-    let work = begin c.args.table.now c.args.parts.now c.args.marks.now c.args.i c.index-parts-i.result c.as_slice-part.result.now c.states-valid.ensures.valid c.requires.reduced c.requires.parts c.requires.reached c.requires.part c.index-parts-i.is c.as_slice-part.ensures.value in
+    let work = begin c.args.table.now c.args.parts.now c.args.marks.now c.args.i c.index-parts-i.result c.as_slice-part.result.now c.is_automaton.ensures c.requires.reduced c.requires.parts c.requires.reached c.requires.part c.index-parts-i.is c.as_slice-part.ensures.value in
     let piece : IsPieceOf (g.I.Pass.Codes.lists c.args.pass.now) c.args.table.now c.as_slice-part.result.now c.number_part.new.targets.items (component c.in-Ok.piece) =
     subst (λ (ts : List Edge). IsPieceOf (g.I.Pass.Codes.lists c.args.pass.now) c.args.table.now c.as_slice-part.result.now ts (component c.in-Ok.piece)) c.deref.ensures.value c.in-Ok.ensures in
     (work-realizes work c.requires.placed c.if-not-marks-part.false c.number_part.ensures piece).connected
 
 pub returns-in-Err-intern-clause-full : goal.returns-in-Err-intern-clause-full
 returns-in-Err-intern-clause-full g c =
-    let work = begin c.args.table.now c.args.parts.now c.args.marks.now c.args.i c.index-parts-i.result c.as_slice-part.result.now c.states-valid.ensures.valid c.requires.reduced c.requires.parts c.requires.reached c.requires.part c.index-parts-i.is c.as_slice-part.ensures.value in
+    let work = begin c.args.table.now c.args.parts.now c.args.marks.now c.args.i c.index-parts-i.result c.as_slice-part.result.now c.is_automaton.ensures c.requires.reduced c.requires.parts c.requires.reached c.requires.part c.index-parts-i.is c.as_slice-part.ensures.value in
     let piece : IsPieceOf (g.I.Pass.Codes.lists c.args.pass.now) c.args.table.now c.as_slice-part.result.now c.number_part.new.targets.items (component c.in-Ok.piece) =
     subst (λ (ts : List Edge). IsPieceOf (g.I.Pass.Codes.lists c.args.pass.now) c.args.table.now c.as_slice-part.result.now ts (component c.in-Ok.piece)) c.deref.ensures.value c.in-Ok.ensures in
     let p = component c.in-Ok.piece in
@@ -83,17 +83,17 @@ returns-in-Err-intern-clause-full g c =
 
 pub place_part-requires-clause-part : goal.place_part-requires-clause-part
 place_part-requires-clause-part g c =
-    let work = begin c.args.table.now c.args.parts.now c.args.marks.now c.args.i c.index-parts-i.result c.as_slice-part.result.now c.states-valid.ensures.valid c.requires.reduced c.requires.parts c.requires.reached c.requires.part c.index-parts-i.is c.as_slice-part.ensures.value in
+    let work = begin c.args.table.now c.args.parts.now c.args.marks.now c.args.i c.index-parts-i.result c.as_slice-part.result.now c.is_automaton.ensures c.requires.reduced c.requires.parts c.requires.reached c.requires.part c.index-parts-i.is c.as_slice-part.ensures.value in
     subst (λ (n : ℕ). IsPart n c.as_slice-part.result.now) (sym c.number_part.ensures.size) (work-targets work c.requires.placed)
 
 pub place_part-requires-clause-few : goal.place_part-requires-clause-few
 place_part-requires-clause-few g c =
-    let work = begin c.args.table.now c.args.parts.now c.args.marks.now c.args.i c.index-parts-i.result c.as_slice-part.result.now c.states-valid.ensures.valid c.requires.reduced c.requires.parts c.requires.reached c.requires.part c.index-parts-i.is c.as_slice-part.ensures.value in
+    let work = begin c.args.table.now c.args.parts.now c.args.marks.now c.args.i c.index-parts-i.result c.as_slice-part.result.now c.is_automaton.ensures c.requires.reduced c.requires.parts c.requires.reached c.requires.part c.index-parts-i.is c.as_slice-part.ensures.value in
     work-few work
 
 pub place_part-requires-clause-numbers : goal.place_part-requires-clause-numbers
 place_part-requires-clause-numbers g c =
-    let work = begin c.args.table.now c.args.parts.now c.args.marks.now c.args.i c.index-parts-i.result c.as_slice-part.result.now c.states-valid.ensures.valid c.requires.reduced c.requires.parts c.requires.reached c.requires.part c.index-parts-i.is c.as_slice-part.ensures.value in
+    let work = begin c.args.table.now c.args.parts.now c.args.marks.now c.args.i c.index-parts-i.result c.as_slice-part.result.now c.is_automaton.ensures c.requires.reduced c.requires.parts c.requires.reached c.requires.part c.index-parts-i.is c.as_slice-part.ensures.value in
     let piece : IsPieceOf (g.I.Pass.Codes.lists c.args.pass.now) c.args.table.now c.as_slice-part.result.now c.number_part.new.targets.items (component c.in-Ok.piece) =
     subst (λ (ts : List Edge). IsPieceOf (g.I.Pass.Codes.lists c.args.pass.now) c.args.table.now c.as_slice-part.result.now ts (component c.in-Ok.piece)) c.deref.ensures.value c.in-Ok.ensures in
     let (entry, in_range, is_from, numbers, first) = c.in-Ok-least_code.ensures.numbers in
@@ -101,7 +101,7 @@ place_part-requires-clause-numbers g c =
 
 pub returns-clause-ok : goal.returns-clause-ok
 returns-clause-ok g c =
-    let work = begin c.args.table.now c.args.parts.now c.args.marks.now c.args.i c.index-parts-i.result c.as_slice-part.result.now c.states-valid.ensures.valid c.requires.reduced c.requires.parts c.requires.reached c.requires.part c.index-parts-i.is c.as_slice-part.ensures.value in
+    let work = begin c.args.table.now c.args.parts.now c.args.marks.now c.args.i c.index-parts-i.result c.as_slice-part.result.now c.is_automaton.ensures c.requires.reduced c.requires.parts c.requires.reached c.requires.part c.index-parts-i.is c.as_slice-part.ensures.value in
     let piece : IsPieceOf (g.I.Pass.Codes.lists c.args.pass.now) c.args.table.now c.as_slice-part.result.now c.number_part.new.targets.items (component c.in-Ok.piece) =
     subst (λ (ts : List Edge). IsPieceOf (g.I.Pass.Codes.lists c.args.pass.now) c.args.table.now c.as_slice-part.result.now ts (component c.in-Ok.piece)) c.deref.ensures.value c.in-Ok.ensures in
     let p = component c.in-Ok.piece in

@@ -18,90 +18,90 @@ use Rattle.pt_handles.proofs.finding.find_part.Goals as goal
 
 pub bounds-part-0 : goal.bounds-part-0
 bounds-part-0 g c =
-    let work = begin c.args.table.now c.args.parts.now c.args.marks.now c.args.i c.index-parts-i.result c.as_slice-part.result.now c.states-valid.ensures.valid c.requires.reduced c.requires.parts c.requires.reached c.requires.part c.index-parts-i.is c.as_slice-part.ensures.value in
+    let work = begin c.args.table.now c.args.parts.now c.args.marks.now c.args.i c.index-parts-i.result c.as_slice-part.result.now c.is_automaton.ensures c.requires.reduced c.requires.parts c.requires.reached c.requires.part c.index-parts-i.is c.as_slice-part.ensures.value in
     (work-part work).some
 
 pub bounds-marks-part : goal.bounds-marks-part
 bounds-marks-part g c =
-    let work = begin c.args.table.now c.args.parts.now c.args.marks.now c.args.i c.index-parts-i.result c.as_slice-part.result.now c.states-valid.ensures.valid c.requires.reduced c.requires.parts c.requires.reached c.requires.part c.index-parts-i.is c.as_slice-part.ensures.value in
+    let work = begin c.args.table.now c.args.parts.now c.args.marks.now c.args.i c.index-parts-i.result c.as_slice-part.result.now c.is_automaton.ensures c.requires.reduced c.requires.parts c.requires.reached c.requires.part c.index-parts-i.is c.as_slice-part.ensures.value in
     work-first work
 
 pub returns-then-not-marks-part-clause-ok : goal.returns-then-not-marks-part-clause-ok
 returns-then-not-marks-part-clause-ok g c =
-    let work = begin c.args.table.now c.args.parts.now c.args.marks.now c.args.i c.index-parts-i.result c.as_slice-part.result.now c.states-valid.ensures.valid c.requires.reduced c.requires.parts c.requires.reached c.requires.part c.index-parts-i.is c.as_slice-part.ensures.value in
+    let work = begin c.args.table.now c.args.parts.now c.args.marks.now c.args.i c.index-parts-i.result c.as_slice-part.result.now c.is_automaton.ensures c.requires.reduced c.requires.parts c.requires.reached c.requires.part c.index-parts-i.is c.as_slice-part.ensures.value in
     work-skip work c.requires.placed c.if-not-marks-part.true
 
 pub number_part-requires-clause-part : goal.number_part-requires-clause-part
 number_part-requires-clause-part g c =
-    let work = begin c.args.table.now c.args.parts.now c.args.marks.now c.args.i c.index-parts-i.result c.as_slice-part.result.now c.states-valid.ensures.valid c.requires.reduced c.requires.parts c.requires.reached c.requires.part c.index-parts-i.is c.as_slice-part.ensures.value in
+    let work = begin c.args.table.now c.args.parts.now c.args.marks.now c.args.i c.index-parts-i.result c.as_slice-part.result.now c.is_automaton.ensures c.requires.reduced c.requires.parts c.requires.reached c.requires.part c.index-parts-i.is c.as_slice-part.ensures.value in
     work-targets work c.requires.placed
 
 pub number_part-requires-clause-few : goal.number_part-requires-clause-few
 number_part-requires-clause-few g c =
-    let work = begin c.args.table.now c.args.parts.now c.args.marks.now c.args.i c.index-parts-i.result c.as_slice-part.result.now c.states-valid.ensures.valid c.requires.reduced c.requires.parts c.requires.reached c.requires.part c.index-parts-i.is c.as_slice-part.ensures.value in
+    let work = begin c.args.table.now c.args.parts.now c.args.marks.now c.args.i c.index-parts-i.result c.as_slice-part.result.now c.is_automaton.ensures c.requires.reduced c.requires.parts c.requires.reached c.requires.part c.index-parts-i.is c.as_slice-part.ensures.value in
     work-few work
 
 pub piece_of-requires-clause-part : goal.piece_of-requires-clause-part
 piece_of-requires-clause-part g c =
-    let work = begin c.args.table.now c.args.parts.now c.args.marks.now c.args.i c.index-parts-i.result c.as_slice-part.result.now c.states-valid.ensures.valid c.requires.reduced c.requires.parts c.requires.reached c.requires.part c.index-parts-i.is c.as_slice-part.ensures.value in
+    let work = begin c.args.table.now c.args.parts.now c.args.marks.now c.args.i c.index-parts-i.result c.as_slice-part.result.now c.is_automaton.ensures c.requires.reduced c.requires.parts c.requires.reached c.requires.part c.index-parts-i.is c.as_slice-part.ensures.value in
     work-part work
 
 pub piece_of-requires-clause-few : goal.piece_of-requires-clause-few
 piece_of-requires-clause-few g c =
-    let work = begin c.args.table.now c.args.parts.now c.args.marks.now c.args.i c.index-parts-i.result c.as_slice-part.result.now c.states-valid.ensures.valid c.requires.reduced c.requires.parts c.requires.reached c.requires.part c.index-parts-i.is c.as_slice-part.ensures.value in
+    let work = begin c.args.table.now c.args.parts.now c.args.marks.now c.args.i c.index-parts-i.result c.as_slice-part.result.now c.is_automaton.ensures c.requires.reduced c.requires.parts c.requires.reached c.requires.part c.index-parts-i.is c.as_slice-part.ensures.value in
     work-few work
 
 pub piece_of-requires-clause-codes : goal.piece_of-requires-clause-codes
 piece_of-requires-clause-codes g c =
-    let work = begin c.args.table.now c.args.parts.now c.args.marks.now c.args.i c.index-parts-i.result c.as_slice-part.result.now c.states-valid.ensures.valid c.requires.reduced c.requires.parts c.requires.reached c.requires.part c.index-parts-i.is c.as_slice-part.ensures.value in
+    let work = begin c.args.table.now c.args.parts.now c.args.marks.now c.args.i c.index-parts-i.result c.as_slice-part.result.now c.is_automaton.ensures c.requires.reduced c.requires.parts c.requires.reached c.requires.part c.index-parts-i.is c.as_slice-part.ensures.value in
     λ k l e in_k letter far. work-codes work c.requires.placed c.if-not-marks-part.false c.number_part.ensures k l e in_k letter (ap (λ (ts : List Edge). slice_index_or ts (next_of c.args.table.now (slice_index c.as_slice-part.result.now k) l) (Near 0)) (sym c.deref.ensures.value) ∙ far)
 
 pub least_code-requires-clause-component : goal.least_code-requires-clause-component
 least_code-requires-clause-component g c =
-    let work = begin c.args.table.now c.args.parts.now c.args.marks.now c.args.i c.index-parts-i.result c.as_slice-part.result.now c.states-valid.ensures.valid c.requires.reduced c.requires.parts c.requires.reached c.requires.part c.index-parts-i.is c.as_slice-part.ensures.value in
-    let piece : IsPieceOf (g.P.Codes.lists c.args.pass.now) c.args.table.now c.as_slice-part.result.now c.number_part.new.targets.items (component c.in-Ok.piece) =
-    subst (λ (ts : List Edge). IsPieceOf (g.P.Codes.lists c.args.pass.now) c.args.table.now c.as_slice-part.result.now ts (component c.in-Ok.piece)) c.deref.ensures.value c.in-Ok.ensures in
+    let work = begin c.args.table.now c.args.parts.now c.args.marks.now c.args.i c.index-parts-i.result c.as_slice-part.result.now c.is_automaton.ensures c.requires.reduced c.requires.parts c.requires.reached c.requires.part c.index-parts-i.is c.as_slice-part.ensures.value in
+    let piece : IsPieceOf (g.P.Codes.lists c.args.pass.now) c.args.table.now c.as_slice-part.result.now c.number_part.new.targets.items (component c.in_ok-piece.piece) =
+    subst (λ (ts : List Edge). IsPieceOf (g.P.Codes.lists c.args.pass.now) c.args.table.now c.as_slice-part.result.now ts (component c.in_ok-piece.piece)) c.deref.ensures.value c.in_ok-piece.ensures in
     (work-realizes work c.requires.placed c.if-not-marks-part.false c.number_part.ensures piece).component
 
 pub least_code-requires-clause-connected : goal.least_code-requires-clause-connected
 least_code-requires-clause-connected g c =
-    let work = begin c.args.table.now c.args.parts.now c.args.marks.now c.args.i c.index-parts-i.result c.as_slice-part.result.now c.states-valid.ensures.valid c.requires.reduced c.requires.parts c.requires.reached c.requires.part c.index-parts-i.is c.as_slice-part.ensures.value in
-    let piece : IsPieceOf (g.P.Codes.lists c.args.pass.now) c.args.table.now c.as_slice-part.result.now c.number_part.new.targets.items (component c.in-Ok.piece) =
-    subst (λ (ts : List Edge). IsPieceOf (g.P.Codes.lists c.args.pass.now) c.args.table.now c.as_slice-part.result.now ts (component c.in-Ok.piece)) c.deref.ensures.value c.in-Ok.ensures in
+    let work = begin c.args.table.now c.args.parts.now c.args.marks.now c.args.i c.index-parts-i.result c.as_slice-part.result.now c.is_automaton.ensures c.requires.reduced c.requires.parts c.requires.reached c.requires.part c.index-parts-i.is c.as_slice-part.ensures.value in
+    let piece : IsPieceOf (g.P.Codes.lists c.args.pass.now) c.args.table.now c.as_slice-part.result.now c.number_part.new.targets.items (component c.in_ok-piece.piece) =
+    subst (λ (ts : List Edge). IsPieceOf (g.P.Codes.lists c.args.pass.now) c.args.table.now c.as_slice-part.result.now ts (component c.in_ok-piece.piece)) c.deref.ensures.value c.in_ok-piece.ensures in
     (work-realizes work c.requires.placed c.if-not-marks-part.false c.number_part.ensures piece).connected
 
 pub returns-in-None-clause-err : goal.returns-in-None-clause-err
 returns-in-None-clause-err g c =
-    let work = begin c.args.table.now c.args.parts.now c.args.marks.now c.args.i c.index-parts-i.result c.as_slice-part.result.now c.states-valid.ensures.valid c.requires.reduced c.requires.parts c.requires.reached c.requires.part c.index-parts-i.is c.as_slice-part.ensures.value in
+    let work = begin c.args.table.now c.args.parts.now c.args.marks.now c.args.i c.index-parts-i.result c.as_slice-part.result.now c.is_automaton.ensures c.requires.reduced c.requires.parts c.requires.reached c.requires.part c.index-parts-i.is c.as_slice-part.ensures.value in
     let lists = g.P.Codes.lists c.args.pass.now in
-    let piece : IsPieceOf lists c.args.table.now c.as_slice-part.result.now c.number_part.new.targets.items (component c.in-Ok.piece) =
-    subst (λ (ts : List Edge). IsPieceOf lists c.args.table.now c.as_slice-part.result.now ts (component c.in-Ok.piece)) c.deref.ensures.value c.in-Ok.ensures in
-    let none : find g.P.Codes.home lists c.in-Ok-least_code.coded.0 ≡ None = ap (find g.P.Codes.home lists) (sym (c.deref-2.ensures ∙ c.code.ensures)) ∙ sym c.find.ensures ∙ c.in-None.is in
-    work-absent work c.requires.placed c.if-not-marks-part.false c.number_part.ensures piece c.in-Ok-least_code.ensures none
+    let piece : IsPieceOf lists c.args.table.now c.as_slice-part.result.now c.number_part.new.targets.items (component c.in_ok-piece.piece) =
+    subst (λ (ts : List Edge). IsPieceOf lists c.args.table.now c.as_slice-part.result.now ts (component c.in_ok-piece.piece)) c.deref.ensures.value c.in_ok-piece.ensures in
+    let none : find g.P.Codes.home lists c.in_ok-coded.coded.0 ≡ None = ap (find g.P.Codes.home lists) (sym (c.deref-2.ensures ∙ c.code.ensures)) ∙ sym c.find.ensures ∙ c.in-None.is in
+    work-absent work c.requires.placed c.if-not-marks-part.false c.number_part.ensures piece c.in_ok-coded.ensures none
 
 pub place_part-requires-clause-part : goal.place_part-requires-clause-part
 place_part-requires-clause-part g c =
-    let work = begin c.args.table.now c.args.parts.now c.args.marks.now c.args.i c.index-parts-i.result c.as_slice-part.result.now c.states-valid.ensures.valid c.requires.reduced c.requires.parts c.requires.reached c.requires.part c.index-parts-i.is c.as_slice-part.ensures.value in
+    let work = begin c.args.table.now c.args.parts.now c.args.marks.now c.args.i c.index-parts-i.result c.as_slice-part.result.now c.is_automaton.ensures c.requires.reduced c.requires.parts c.requires.reached c.requires.part c.index-parts-i.is c.as_slice-part.ensures.value in
     subst (λ (n : ℕ). IsPart n c.as_slice-part.result.now) (sym c.number_part.ensures.size) (work-targets work c.requires.placed)
 
 pub place_part-requires-clause-few : goal.place_part-requires-clause-few
 place_part-requires-clause-few g c =
-    let work = begin c.args.table.now c.args.parts.now c.args.marks.now c.args.i c.index-parts-i.result c.as_slice-part.result.now c.states-valid.ensures.valid c.requires.reduced c.requires.parts c.requires.reached c.requires.part c.index-parts-i.is c.as_slice-part.ensures.value in
+    let work = begin c.args.table.now c.args.parts.now c.args.marks.now c.args.i c.index-parts-i.result c.as_slice-part.result.now c.is_automaton.ensures c.requires.reduced c.requires.parts c.requires.reached c.requires.part c.index-parts-i.is c.as_slice-part.ensures.value in
     work-few work
 
 pub place_part-requires-clause-numbers : goal.place_part-requires-clause-numbers
 place_part-requires-clause-numbers g c =
-    let work = begin c.args.table.now c.args.parts.now c.args.marks.now c.args.i c.index-parts-i.result c.as_slice-part.result.now c.states-valid.ensures.valid c.requires.reduced c.requires.parts c.requires.reached c.requires.part c.index-parts-i.is c.as_slice-part.ensures.value in
-    let piece : IsPieceOf (g.P.Codes.lists c.args.pass.now) c.args.table.now c.as_slice-part.result.now c.number_part.new.targets.items (component c.in-Ok.piece) =
-    subst (λ (ts : List Edge). IsPieceOf (g.P.Codes.lists c.args.pass.now) c.args.table.now c.as_slice-part.result.now ts (component c.in-Ok.piece)) c.deref.ensures.value c.in-Ok.ensures in
-    let (entry, in_range, is_from, numbers, first) = c.in-Ok-least_code.ensures.numbers in
-    ap (λ (ns : List ℕ). length ns) numbers ∙ length-map-range_with_len (λ q. position_or_len (◌==◌ q) (states_in_order (component c.in-Ok.piece) entry)) 0 c.in-Ok.piece.states ∙ piece.states
+    let work = begin c.args.table.now c.args.parts.now c.args.marks.now c.args.i c.index-parts-i.result c.as_slice-part.result.now c.is_automaton.ensures c.requires.reduced c.requires.parts c.requires.reached c.requires.part c.index-parts-i.is c.as_slice-part.ensures.value in
+    let piece : IsPieceOf (g.P.Codes.lists c.args.pass.now) c.args.table.now c.as_slice-part.result.now c.number_part.new.targets.items (component c.in_ok-piece.piece) =
+    subst (λ (ts : List Edge). IsPieceOf (g.P.Codes.lists c.args.pass.now) c.args.table.now c.as_slice-part.result.now ts (component c.in_ok-piece.piece)) c.deref.ensures.value c.in_ok-piece.ensures in
+    let (entry, in_range, is_from, numbers, first) = c.in_ok-coded.ensures.numbers in
+    ap (λ (ns : List ℕ). length ns) numbers ∙ length-map-range_with_len (λ q. position_or_len (◌==◌ q) (states_in_order (component c.in_ok-piece.piece) entry)) 0 c.in_ok-piece.piece.states ∙ piece.states
 
 pub returns-clause-ok : goal.returns-clause-ok
 returns-clause-ok g c =
-    let work = begin c.args.table.now c.args.parts.now c.args.marks.now c.args.i c.index-parts-i.result c.as_slice-part.result.now c.states-valid.ensures.valid c.requires.reduced c.requires.parts c.requires.reached c.requires.part c.index-parts-i.is c.as_slice-part.ensures.value in
+    let work = begin c.args.table.now c.args.parts.now c.args.marks.now c.args.i c.index-parts-i.result c.as_slice-part.result.now c.is_automaton.ensures c.requires.reduced c.requires.parts c.requires.reached c.requires.part c.index-parts-i.is c.as_slice-part.ensures.value in
     let lists = g.P.Codes.lists c.args.pass.now in
-    let piece : IsPieceOf lists c.args.table.now c.as_slice-part.result.now c.number_part.new.targets.items (component c.in-Ok.piece) =
-    subst (λ (ts : List Edge). IsPieceOf lists c.args.table.now c.as_slice-part.result.now ts (component c.in-Ok.piece)) c.deref.ensures.value c.in-Ok.ensures in
-    let found : find g.P.Codes.home lists c.in-Ok-least_code.coded.0 ≡ Some c.in-Some.place = ap (find g.P.Codes.home lists) (sym (c.deref-2.ensures ∙ c.code.ensures)) ∙ sym c.find.ensures ∙ c.in-Some.is in
-    work-placed work c.requires.placed c.if-not-marks-part.false c.number_part.ensures piece (Extends-refl lists) c.in-Ok-least_code.ensures c.in-Some.place c.place_part.new.targets.items found c.place_part.ensures
+    let piece : IsPieceOf lists c.args.table.now c.as_slice-part.result.now c.number_part.new.targets.items (component c.in_ok-piece.piece) =
+    subst (λ (ts : List Edge). IsPieceOf lists c.args.table.now c.as_slice-part.result.now ts (component c.in_ok-piece.piece)) c.deref.ensures.value c.in_ok-piece.ensures in
+    let found : find g.P.Codes.home lists c.in_ok-coded.coded.0 ≡ Some c.in-Some.place = ap (find g.P.Codes.home lists) (sym (c.deref-2.ensures ∙ c.code.ensures)) ∙ sym c.find.ensures ∙ c.in-Some.is in
+    work-placed work c.requires.placed c.if-not-marks-part.false c.number_part.ensures piece (Extends-refl lists) c.in_ok-coded.ensures c.in-Some.place c.place_part.new.targets.items found c.place_part.ensures
