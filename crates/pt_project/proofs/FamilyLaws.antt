@@ -5,9 +5,8 @@ use Rattle.std.specs.Int.{bit_at}
 use Rattle.std.specs.List.{AllByRecursion}
 use Rattle.std.proofs.lemmas.List.{map-append}
 use Rattle.std.proofs.lemmas.Nat.Bits.{bit_at-lt}
-use Rattle.pt_sets.specs.Words.{Vector, IsLetter, AreLetters, value, after_digits}
+use Rattle.pt_sets.specs.Words.{Vector, IsLetter, AreLetters, after_digits}
 use Rattle.pt_sets.specs.Sets.{SameSet, residual_by}
-use Rattle.pt_sets.specs.Languages.{Language, KeepsSignExtension, SetOf}
 use Rattle.pt_sets.specs.Automata.{Automaton, IsAutomaton, IsReduced, next_of, output_of, language_of, SetOfState}
 use Rattle.pt_sets.specs.Elements.{ContainsByRecursion, PairsByRecursion}
 use Rattle.pt_sets.specs.Costs.{RestrictsBy, SameResidual, IncludesFamily}

@@ -1,15 +1,14 @@
 -- One cell of the search over families.
-use Rattle.std.proofs.Common.{◌≡◌, ℕ, suc, ◌+◌, ◌*◌, ◌^◌, ◌<◌, ◌≤◌, Bool, List, [], ◌∷◌, ◌++◌, length, get_or, Some, slice_get, refl, sym, subst, arith, Result, Ok, Err}
+use Rattle.std.proofs.Common.{◌≡◌, ℕ, suc, ◌+◌, ◌*◌, ◌^◌, ◌<◌, ◌≤◌, Bool, List, [], ◌∷◌, ◌++◌, length, get_or, Some, slice_get, sym, subst, arith, Result, Ok, Err}
 use Rattle.std.specs.Prelude.{OnOk, IsTrue, ◌↔◌}
 use Rattle.std.specs.Global.{Vec}
 use Rattle.std.proofs.lemmas.Grind.{common_steps}
 use Rattle.pt_sets.specs.Words.{IsLetter}
-use Rattle.pt_sets.specs.Sets.{SameSet}
 use Rattle.pt_sets.proofs.Counting.{SameSet-refl}
 use Rattle.pt_sets.specs.Elements.{ContainsByRecursion}
 use Rattle.pt_sets.specs.Automata.{Automaton, IsAutomaton, IsReduced, SetOfState}
 use Rattle.pt_sets.specs.Numbering.{IsReached, Adds}
-use Rattle.pt_sets.proofs.Numbered.{All-get, numbering-more}
+use Rattle.pt_sets.proofs.Numbered.{All-get, numbering-start, numbering-more}
 use Rattle.pt_sets.proofs.Paths.{AreLetters-append}
 use Rattle.pt_handles.specs.Refusing.{StatesOnlyAbove}
 use Rattle.pt_handles.specs.declared.fault.TableFault.{TableFault}
@@ -19,7 +18,7 @@ use Rattle.pt_project.specs.Closing.{IsMarked, AreMarks}
 use Rattle.pt_project.specs.Numbered.{IsFullFamilies}
 use Rattle.pt_project.specs.Searching.{FamilyNumbering}
 use Rattle.pt_project.proofs.Orders.{in-get}
-use Rattle.pt_project.proofs.FamilyLaws.{reached-within, family-next}
+use Rattle.pt_project.proofs.FamilyLaws.{reached-within, family-first, family-next}
 use Rattle.pt_project.proofs.FinishedFamilies.{families-above}
 
 pub all-below : (m : ℕ) (F : List ℕ) → ((x : ℕ) → ContainsByRecursion x F → x < m) → (i d : ℕ) → i < length F → get_or F i d < m
@@ -33,6 +32,16 @@ on-ok (Ok v) A B C x y f = f x y
 on-ok (Err e) A B C x y f = tt
 
 module _ (a : Automaton) (start n k : ℕ) (shape : IsAutomaton a) (tracks : a.tracks ≡ suc n) (inside : start < a.states) (short : k ≤ n) where
+  -- nothing is done yet
+  pub numbering-first : (families : List (List ℕ)) (outputs : List Bool) (edges : List ℕ) (m : ℕ) → families ≡ (start ∷ []) ∷ [] → outputs ≡ [] → edges ≡ [] → m ≡ 0 → FamilyNumbering a start n k families outputs edges m
+  numbering-first families outputs edges m fams outs eds count =
+      subst (λ (z : ℕ). FamilyNumbering a start n k families outputs edges z) (sym count)
+      (subst (λ (es : List ℕ). FamilyNumbering a start n k families outputs es 0) (sym eds)
+      (subst (λ (bs : List Bool). FamilyNumbering a start n k families bs [] 0) (sym outs)
+      (subst (λ (Gs : List (List ℕ)). FamilyNumbering a start n k Gs [] [] 0) (sym fams)
+      (numbering-start n (start ∷ []) (λ w H. IsFamily a start n k w H) (λ H c I. IsStepFamily a k H c I) (λ H s c. ShowsFamily a n k H s c)
+      (family-first a start n k (SetOfState a start) shape tracks inside short (SameSet-refl (suc n) (SetOfState a start)))))))
+
   reached-of : (families : List (List ℕ)) (outputs : List Bool) (edges : List ℕ) (m i : ℕ) (F : List ℕ) → FamilyNumbering a start n k families outputs edges m → slice_get families i ≡ Some F → IsReached n (λ w G. IsFamily a start n k w G) F
   reached-of families outputs edges m i F progress at = All-get (IsReached n (λ w G. IsFamily a start n k w G)) families i F progress.reached at
 

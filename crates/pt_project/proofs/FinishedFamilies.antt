@@ -1,7 +1,7 @@
 -- A finished search over families: its table, and how many families there are.
 use Rattle.std.proofs.Common.{◌≡◌, ◌≢◌, IsTrue, ◌↔◌, subst, sym, ℕ, suc, ◌*◌, ◌^◌, ◌<◌, ◌≤◌, Bool, List, [], ◌∷◌, length, Some, slice_get, arith}
 use Rattle.std.specs.List.{AllByRecursion}
-use Rattle.pt_sets.specs.Words.{Vector, IsLetter, AreLetters, value}
+use Rattle.pt_sets.specs.Words.{Vector, IsLetter, AreLetters}
 use Rattle.pt_sets.specs.Sets.{SameSet}
 use Rattle.pt_sets.specs.Languages.{KeepsSignExtension, Encodes, SetOf}
 use Rattle.pt_sets.specs.Automata.{Automaton, IsAutomaton, IsReduced, language_of, SetOfState}

@@ -2,6 +2,8 @@ pub mod Projected
 pub mod FamilyLaws
 pub mod FinishedFamilies
 pub mod Orders
+pub mod BitLaws
+pub mod WordLaws
 pub mod Digits
 pub mod StepLaws
 pub mod Marks

@@ -1,5 +1,5 @@
 -- Marks of states from which two letters lead to an output, and the search over reverse edges that finds them.
-use Rattle.std.proofs.Common.{◌≡◌, ◌≢◌, ◌⊎◌, ◌↔◌, inl, inr, ℕ, ◌+◌, ◌<◌, Bool, true, false, not, List, [], ◌∷◌, ◌++◌, length, set, get_or, refl, ap, sym, ◌∙◌, subst, arith, length-append, get_or-set_other, get_or-set_same}
+use Rattle.std.proofs.Common.{◌≡◌, ◌⊎◌, ◌↔◌, inl, inr, ℕ, ◌+◌, ◌<◌, Bool, true, false, not, List, [], ◌∷◌, ◌++◌, length, set, get_or, refl, ap, sym, ◌∙◌, subst, arith, length-append, get_or-set_other, get_or-set_same}
 use Rattle.std.specs.Prelude.{cond}
 use Rattle.std.specs.Global.{Vec}
 use Rattle.std.specs.List.{count_by}

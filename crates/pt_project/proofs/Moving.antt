@@ -1,5 +1,5 @@
 -- Known handles, lacking and refusals go over to equal sets.
-use Rattle.std.proofs.Common.{◌≡◌, ◌↔◌, ℕ, List, subst, sym, ◌∙◌}
+use Rattle.std.proofs.Common.{◌≡◌, ℕ, List, subst, ◌∙◌}
 use Rattle.pt_sets.specs.Words.{Vector}
 use Rattle.pt_sets.specs.Sets.{SameSet}
 use Rattle.pt_sets.specs.Languages.{SetOf}

@@ -1,19 +1,19 @@
 -- Sign closure gives the vectors to which an integer can be added.
-use Rattle.std.proofs.Common.{◌≡◌, ◌⊎◌, inl, inr, ℕ, zero, suc, ◌+◌, ◌-◌, ◌*◌, ◌/◌, ◌%◌, ◌^◌, ◌<◌, ◌≤◌, List, [], ◌∷◌, ◌++◌, length, map, get_or, Some, slice_get, refl, ap, sym, ◌∙◌, subst, arith, length-append, append_assoc}
-use Rattle.std.specs.Prelude.{replicate, insert, ℤ, pos, ◌+ℤ◌, ◌*ℤ◌, neg_ℤ, IsTrue, ◌↔◌}
+use Rattle.std.proofs.Common.{◌≡◌, inl, inr, ℕ, zero, suc, ◌+◌, ◌-◌, ◌*◌, ◌/◌, ◌%◌, ◌^◌, ◌<◌, ◌≤◌, List, [], ◌∷◌, ◌++◌, length, get_or, Some, slice_get, refl, ap, sym, ◌∙◌, subst, arith, length-append, append_assoc}
+use Rattle.std.specs.Prelude.{replicate, insert, ℤ, pos, ◌+ℤ◌, ◌*ℤ◌, neg_ℤ}
 use Rattle.std.specs.Int.{bit_at}
 use Rattle.std.proofs.lemmas.Int.{ints}
 use Rattle.std.proofs.lemmas.Bool.{cases_lt}
 use Rattle.std.proofs.lemmas.List.{append-nil, length-map, length-replicate}
 use Rattle.std.proofs.lemmas.List.Edits.{length-insert, get_or-insert_below, get_or-insert_at, get_or-insert_above}
-use Rattle.std.proofs.lemmas.Option.{slice_get_within, slice_get-get_or, get_or_from_slice_get}
+use Rattle.std.proofs.lemmas.Option.{slice_get-get_or}
 use Rattle.std.proofs.lemmas.Nat.{pow_pos, pow-add, shr-shr, shr_split, shr_below, shr_high, mod_low, mod_below}
 use Rattle.std.proofs.lemmas.Nat.Bits.{bit_at_cat_low, bit_at_cat_high}
-use Rattle.pt_sets.specs.Words.{Vector, IsLetter, AreLetters, sign_vector, value}
+use Rattle.pt_sets.specs.Words.{Vector, IsLetter, AreLetters, value}
 use Rattle.pt_sets.specs.Sets.{SameSet}
 use Rattle.pt_sets.specs.Languages.{Language, KeepsSignExtension, Encodes, SetOf}
 use Rattle.pt_sets.proofs.WordValues.{length-value, value-letter, slice_get-doubled_plus, slice_get-sign_vector}
-use Rattle.pt_sets.proofs.SameValues.{AreLetters-push, longer-word}
+use Rattle.pt_sets.proofs.SameValues.{longer-word}
 use Rattle.pt_sets.proofs.Paths.{AreLetters-append}
 use Rattle.pt_project.specs.Projecting.{projected, without, without_all, with_digit, AcceptsWithout, SignClosureIsProjection}
 use Rattle.pt_sets.proofs.Stepping.{cell-within}

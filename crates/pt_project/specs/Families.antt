@@ -1,5 +1,5 @@
 -- Sets of states that are reached by lists of letters which are one list without the dropped track.
-use Rattle.std.specs.Prelude.{◌≡◌, ◌↔◌, ℕ, suc, ◌<◌, ◌≤◌, List, [], Bool, IsTrue, replicate}
+use Rattle.std.specs.Prelude.{◌≡◌, ◌⊎◌, ◌↔◌, ℕ, suc, ◌<◌, ◌≤◌, List, Bool, IsTrue, replicate}
 use Rattle.pt_sets.specs.Elements.{ContainsByRecursion, PairsByRecursion}
 use Rattle.pt_sets.specs.Words.{IsLetter, AreLetters, sign_vector}
 use Rattle.pt_sets.specs.Sets.{VectorSet}
@@ -26,6 +26,10 @@ pub record IsFamily (a : Automaton) (start n k : ℕ) (w F : List ℕ) : Type 0 
   pub increasing : PairsByRecursion ◌<◌ F
   pub sound : (x : ℕ) → ContainsByRecursion x F → (p : List ℕ) × AreLetters (suc n) p × (without_all k p ≡ w) × (run_of a start p ≡ x)
   pub complete : (p : List ℕ) → AreLetters (suc n) p → without_all k p ≡ w → ContainsByRecursion (run_of a start p) F
+
+-- y is the successor of a state of F by the letter l or the letter m
+abbrev pub IsSuccessor : Automaton → ℕ → ℕ → List ℕ → ℕ → Type 0
+IsSuccessor a l m F y = (x : ℕ) × ContainsByRecursion x F × ((next_of a x l ≡ y) ⊎ (next_of a x m ≡ y))
 
 -- G has, in increasing order, the successors of F by both letters that are b without track k
 pub record IsStepFamily (a : Automaton) (k : ℕ) (F : List ℕ) (b : ℕ) (G : List ℕ) : Type 0 where

@@ -1,3 +1,4 @@
+pub mod Bits
 pub mod Projecting
 pub mod Families
 pub mod Closing

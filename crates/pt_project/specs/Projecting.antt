@@ -1,5 +1,5 @@
 -- Dropping a track.
-use Rattle.std.specs.Prelude.{◌≡◌, ◌↔◌, ℕ, suc, ◌+◌, ◌*◌, ◌/◌, ◌%◌, ◌^◌, ◌<◌, ◌≤◌, List, [], ◌∷◌, ◌++◌, map, replicate, insert, ℤ, IsTrue}
+use Rattle.std.specs.Prelude.{◌≡◌, ◌↔◌, ℕ, suc, ◌+◌, ◌*◌, ◌/◌, ◌%◌, ◌^◌, ◌≤◌, List, [], ◌∷◌, ◌++◌, map, replicate, insert, ℤ, IsTrue}
 use Rattle.pt_sets.specs.Words.{IsLetter, AreLetters, value}
 use Rattle.pt_sets.specs.Sets.{VectorSet}
 use Rattle.pt_sets.specs.Languages.{Language, KeepsSignExtension, SetOf}

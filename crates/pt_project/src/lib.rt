@@ -1,6 +1,7 @@
 //! Projection of sets, with exact costs.
 #![tactic(auto)]
 
+mod bits;
 mod closing;
 mod families;
 mod family;
@@ -9,7 +10,7 @@ mod projecting;
 mod search;
 mod sources;
 
-pub use laws::sign_closures_are_projections;
+pub use laws::{family_costs_exclude_each_other, sign_closures_are_projections};
 pub use projecting::{exists, exists_table};
 
 #[cfg(test)]

@@ -8,7 +8,7 @@ ghost use Rattle.pt_handles.specs.Handles.{IsKnown, Has, SetOfHandle};
 ghost use Rattle.pt_handles.specs.Refusing.{StatesOnlyAbove, RefusedOnlyWhere};
 ghost use Rattle.pt_project.specs.Projecting.{projected, without};
 
-use crate::search::search_families;
+use crate::search::{Task, search_families};
 use pt_handles::{Handle, OpFault, TableFault, adopt, expand};
 use pt_store::{Codes, Interner};
 use pt_tables::Table;
@@ -21,8 +21,9 @@ use std::thread::Threads;
 ///
 /// `States` exactly where there are more families than the bound; the search ends at the first one past it. The
 /// closure is found once for each sign, by one search over reverse edges, in time and memory of states times letters.
-/// Families are numbered through a hash index, in time and memory of the sum of their sizes times letters, but for
-/// sorting the successors of each.
+/// Families are numbered through a hash index, in memory of the sum of their sizes. The successors of each by a letter are
+/// read off a bit for each state of the set, in the time of the family and of a word for each 64 states; those of a family
+/// smaller than a 512th part of the states are sorted.
 pub fn exists_table<P: Codes>(
     alloc: Global,
     pass: &P,
@@ -35,19 +36,22 @@ pub fn exists_table<P: Codes>(
     requires some { 0 < bound }
     requires few { bound ≤ 65536 }
     ensures tracks { IfOk result (λ table. table.tracks ≡ a.tracks - 1) }
+    ensures some { IfOk result (λ table. 0 < table.states) }
     ensures few { IfOk result (λ table. table.states ≤ bound) }
     ensures set { IfOk result (λ table. SameSet (a.tracks - 1) (SetOfState table 0) (projected track (SetOfHandle (P.lists pass.now) a))) }
     ensures cost { IfOk result (λ table. CostIs (SameFamily (RestrictsBy a.tracks (without track)) a.tracks (SetOfHandle (P.lists pass.now) a)) (a.tracks - 1) table.states) }
     ensures within { IfOk result (λ table. CostWithin (SameFamily (RestrictsBy a.tracks (without track)) a.tracks (SetOfHandle (P.lists pass.now) a)) (a.tracks - 1) bound) }
     ensures above { IfErr result (StatesOnlyAbove (SameFamily (RestrictsBy a.tracks (without track)) a.tracks (SetOfHandle (P.lists pass.now) a)) (a.tracks - 1) bound) }
 {
-    let (table, start) = match expand(alloc, pass, a) {
-        Ok(expanded) => expanded,
-        Err(_) => return Err(TableFault::NoMemory),
-    };
-    let _valid = table.states();
+    let (table, start) = expand(alloc, pass, a)?;
     let tracks = a.tracks - 1;
-    let search = search_families(alloc, &table, start, track, tracks, bound)?;
+    let task = Task {
+        start,
+        track,
+        tracks,
+        bound,
+    };
+    let search = search_families(alloc, &table, task)?;
     let states = search.families.len() as u32;
     Ok(Table::from_parts(tracks, states, search.outputs, search.edges))
 }
@@ -79,11 +83,7 @@ pub fn exists<R: Threads + Sync, I: Interner>(
         I.Pass.home (I.limit_of store.now) (I.Pass.lists pass.new) (a.tracks - 1) (projected track (SetOfHandle (I.Pass.lists pass.old) a))) }
     ensures offers { I.Pass.offered pass.new ≤ I.Pass.offered pass.old + bound }
 {
-    let table = match exists_table(alloc, &*pass, a, track, bound) {
-        Ok(table) => table,
-        Err(fault) => return Err(OpFault::from(fault)),
-    };
-    let _valid = table.states();
+    let table = exists_table(alloc, &*pass, a, track, bound)?;
     match adopt(rt, alloc, store, pass, &table, 0) {
         Ok(handle) => Ok(handle),
         Err(fault) => Err(OpFault::from(fault)),

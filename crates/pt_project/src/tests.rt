@@ -1,6 +1,7 @@
 // Projections of tables over two tracks, compared with a search for the number that can be added.
 ghost use Rattle.std.specs.Prelude.{◌≡◌, ◌<◌, IfOk};
 
+use crate::bits::{clear_words, set_bit, take_numbers};
 use crate::*;
 use pt_handles::{TableFault, adopt, expand};
 use pt_store::{LocalStore, OneShard};
@@ -36,7 +37,7 @@ fn table_of(alloc: Global, ends: &[u32], outputs: &[(u32, u16)]) -> Result<Table
         }
         builder.output(*state, *sign, true);
     }
-    let table = builder.finish()?;
+    let table = builder.finish(alloc)?;
     if table.states() == 0 || table.tracks() != 2 {
         return Err("table")?;
     }
@@ -49,7 +50,7 @@ fn vector_table(alloc: Global, letters: &[u16]) -> Result<Table, Fail>
     ensures tracks { IfOk result (λ t. t.tracks ≡ 2) }
 {
     let last = match u32::try_from(letters.len()) {
-        Ok(last) if last < 1000 => last,
+        Ok(last) if last < 2000 => last,
         _ => return Err("letters")?,
     };
     let mut ends = Vec::new(alloc);
@@ -83,6 +84,7 @@ fn projection<R: Threads + Sync>(
     }
     let (store, mut pass) = LocalStore::new(alloc, 1, 1000, OneShard)?;
     let set = adopt(rt, alloc, &store, &mut pass, table, 0)?;
+    family_costs_exclude_each_other(&pass);
     Ok(exists_table(alloc, &pass, set, track, bound))
 }
 
@@ -106,8 +108,8 @@ fn agrees(table: &Table, projected: &Table, track: u32) -> bool
     requires states { 0 < table.now.states }
     requires tracks { table.now.tracks ≡ 2 }
     requires projected { projected.now.tracks ≡ 1 }
+    requires some { 0 < projected.now.states }
 {
-    let _valid = projected.states();
     for k in 0..41u32 {
         let x = i128::from(k) - 20;
         if projected.member(0, &[x]) != has_number(table, track, x) {
@@ -169,9 +171,26 @@ fn cost<R: Threads + Sync>(
     }
 }
 
+/// Whether state 0 of the projection of {(0, 5)} has 0 alone of the numbers from -20 to 20.
+fn has_zero_alone<R: Threads + Sync>(rt: &R, alloc: Global) -> Result<bool, Fail> {
+    let table = vector_table(alloc, &[2, 0, 2])?;
+    let projected = projection(rt, alloc, &table, 1, 100)??;
+    if projected.tracks() != 1 {
+        return Err("tracks")?;
+    }
+    for k in 0..41u32 {
+        let x = i128::from(k) - 20;
+        if projected.member(0, &[x]) != (x == 0) {
+            return Ok(false);
+        }
+    }
+    Ok(true)
+}
+
 #[test]
 fn the_cost_of_a_projection_is_exact(rt: HostRuntime) -> Result<(), Fail> {
     let alloc = rt.alloc();
+    assert!(rt; has_zero_alone(&rt, alloc)?);
     for bound in [100, 5] {
         assert!(rt; cost(&rt, alloc, bound)? == Ok(5));
     }
@@ -188,9 +207,9 @@ fn projects_to_zero<R: Threads + Sync>(
     letters: &[u16],
 ) -> Result<bool, Fail> {
     let table = vector_table(alloc, letters)?;
-    let (store, mut pass) = LocalStore::new(alloc, 1, 1000, OneShard)?;
+    let (store, mut pass) = LocalStore::new(alloc, 1, 4000, OneShard)?;
     let set = adopt(rt, alloc, &store, &mut pass, &table, 0)?;
-    let zero = exists(rt, alloc, &store, &mut pass, set, 1, 100)?;
+    let zero = exists(rt, alloc, &store, &mut pass, set, 1, 2000)?;
     let (zeros, first) = expand(alloc, &pass, zero)?;
     let whole = exists(rt, alloc, &store, &mut pass, zero, 0, 100)?;
     let (all, only) = expand(alloc, &pass, whole)?;
@@ -207,8 +226,44 @@ fn projects_to_zero<R: Threads + Sync>(
 fn the_number_that_is_added_may_be_far_longer(rt: HostRuntime) -> Result<(), Fail> {
     let alloc = rt.alloc();
     assert!(rt; projects_to_zero(&rt, alloc, &[2, 0, 2])?);
-    let mut letters = vec![in alloc; 0u16; 40]?;
-    letters.push(2)?;
-    assert!(rt; projects_to_zero(&rt, alloc, &letters)?);
+    // Of 1,102 states the families of one are sorted, the others read off their bits.
+    for length in [40, 1100] {
+        let mut letters = vec![in alloc; 0u16; length]?;
+        letters.push(2)?;
+        assert!(rt; projects_to_zero(&rt, alloc, &letters)?);
+    }
+    Ok(())
+}
+
+/// Numbers below 199 by their bits, and by a plain sort.
+fn in_order_by_bits_and_by_sorting(
+    alloc: Global,
+    count: u32,
+) -> Result<(Vec<u32>, Vec<u32>), Fail> {
+    let mut words = clear_words(alloc, 199)?;
+    let mut sorted = Vec::new(alloc);
+    for k in 0..count {
+        let number = k % 1000 * 7919 % 199;
+        set_bit(&mut words, number);
+        sorted.push(number)?;
+    }
+    sorted.sort_unstable();
+    sorted.dedup();
+    let mut first = Vec::new(alloc);
+    take_numbers(&mut words, &mut first)?;
+    let mut again = Vec::new(alloc);
+    take_numbers(&mut words, &mut again)?;
+    if !again.is_empty() {
+        return Err("bits are left")?;
+    }
+    Ok((first, sorted))
+}
+
+#[test]
+fn bits_are_read_in_the_order_of_a_sort(rt: HostRuntime) -> Result<(), Fail> {
+    for count in [0, 1, 2, 30, 150, 400] {
+        let (by_bits, by_sorting) = in_order_by_bits_and_by_sorting(rt.alloc(), count)?;
+        assert_eq!(rt; by_bits, by_sorting);
+    }
     Ok(())
 }

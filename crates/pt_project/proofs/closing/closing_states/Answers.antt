@@ -1,4 +1,4 @@
-use Rattle.std.proofs.Common.{◌≡◌, ℕ, ◌<◌, List, Bool, [], ◌∷◌, ◌++◌, length, vec_len, subst, sym, ap, ◌∙◌, arith}
+use Rattle.std.proofs.Common.{◌≡◌, ℕ, ◌<◌, List, Bool, [], length, subst, sym, ap, ◌∙◌, arith}
 use Rattle.std.specs.Global.{Vec}
 use Rattle.pt_sets.specs.Elements.{ContainsByRecursion}
 use Rattle.pt_project.specs.Closing.{row_of, IsMarked}

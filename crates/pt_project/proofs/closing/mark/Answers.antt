@@ -1,4 +1,4 @@
-use Rattle.std.proofs.Common.{◌≡◌, List, ◌++◌, [], ◌∷◌, set, true, false, subst, sym, slice_index_or, arith, ℕ}
+use Rattle.std.proofs.Common.{◌≡◌, List, [], ◌∷◌, set, true, false, subst, sym, slice_index_or, arith, ℕ}
 use Rattle.std.proofs.lemmas.Grind.{common_steps}
 use Rattle.pt_project.specs.Closing.{MarksMore}
 use Rattle.pt_project.proofs.Marks.{marks-again, marks-new}

@@ -1,5 +1,4 @@
-use Rattle.std.proofs.Common.{◌≡◌, ℕ, ◌<◌, List, ◌++◌, [], ◌∷◌, take, get_or, length, subst, sym, ◌∙◌, rules, arith}
-use Rattle.std.proofs.lemmas.Grind.{common_steps}
+use Rattle.std.proofs.Common.{ℕ, ◌<◌, List, take, get_or, length, subst, sym, rules}
 use Rattle.std.proofs.lemmas.List.{take_more}
 use Rattle.pt_project.specs.Closing.{MarksMore}
 use Rattle.pt_project.proofs.Orders.{in-get}

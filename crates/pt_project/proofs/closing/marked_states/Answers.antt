@@ -1,4 +1,4 @@
-use Rattle.std.proofs.Common.{◌≡◌, ℕ, List, ◌+◌, ◌∙◌, ap, sym, subst, arith}
+use Rattle.std.proofs.Common.{ℕ, ◌+◌, ◌∙◌, ap, sym, subst, arith}
 use Rattle.std.specs.Global.{Vec}
 use Rattle.pt_project.proofs.Marks.{FoundMarked, found-one, found-none}
 use Rattle.pt_project.proofs.closing.marked_states.Goals.{then-marked+in_ok-push, else-marked}

@@ -1,4 +1,4 @@
-use Rattle.std.proofs.Common.{◌≡◌, ◌≢◌, ℕ, List, [], ◌∷◌, ◌++◌, sym, ap, ◌∙◌}
+use Rattle.std.proofs.Common.{◌≡◌, ℕ, List, [], ◌∷◌, ◌++◌, sym, ap, ◌∙◌}
 use Rattle.std.specs.Global.{Vec}
 use Rattle.pt_project.specs.Closing.{row_of}
 use Rattle.pt_project.proofs.Rows.{row-get, row-set_same, row-set_other}

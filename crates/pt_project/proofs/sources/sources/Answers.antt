@@ -1,4 +1,4 @@
-use Rattle.std.proofs.Common.{◌≡◌, ℕ, length, subst, arith, ◌∙◌}
+use Rattle.std.proofs.Common.{◌≡◌, ℕ, subst, arith, ◌∙◌}
 use Rattle.pt_project.specs.Closing.{AreSources}
 use Rattle.pt_project.proofs.Rows.{sources-none, sources-more}
 use Rattle.pt_project.proofs.sources.sources.Goals as goal
