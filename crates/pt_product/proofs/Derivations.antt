@@ -33,7 +33,7 @@ turned-start t X a r start is whole value =
     (SameSet-trans t (SetOfState (turned a) start) (outside (SetOfState a start)) (outside X) set (outside-same t (SetOfState a start) X whole.set))
 
 -- widened sets of equal sets
-widened-same-set : (k t : ℕ) (m : List ℕ) (X Y : Vector → Type 0) → length m ≡ k → SameSet k X Y → SameSet t (widened m X) (widened m Y)
+pub widened-same-set : (k t : ℕ) (m : List ℕ) (X Y : Vector → Type 0) → length m ≡ k → SameSet k X Y → SameSet t (widened m X) (widened m Y)
 widened-same-set k t m X Y count same = record { agrees = λ z h. same.agrees (selected m z) (length-map m _ ∙ count) }
 
 -- the start of the automaton over more tracks has the widened set

@@ -6,9 +6,9 @@ use Rattle.pt_sets.specs.Elements.{AnyByRecursion}
 use Rattle.pt_sets.specs.Words.{Vector, AreLetters, after_digits}
 use Rattle.pt_sets.specs.Sets.{SameSet, residual_by}
 use Rattle.pt_sets.specs.Automata.{Automaton, IsAutomaton, next_of, output_of, run, SetOfState}
-use Rattle.pt_sets.specs.Costs.{AreDifferent, CostIs, SameResidual}
+use Rattle.pt_sets.specs.Costs.{AreDifferent, CostIs, CostWithin, SameResidual}
 use Rattle.pt_sets.proofs.Digits.{length-after_digits}
-use Rattle.pt_sets.proofs.Counting.{SameSet-sym, SameSet-trans, is-unique, residual-equivalence}
+use Rattle.pt_sets.proofs.Counting.{SameSet-sym, SameSet-trans, is-above, costs-exclude, residual-equivalence}
 use Rattle.pt_sets.proofs.Running.{state-residual}
 use Rattle.pt_handles.specs.Expansion.{Expands}
 
@@ -84,5 +84,10 @@ module _ (t : ℕ) (X : Vector → Type 0) (a : Automaton) (start : ℕ) (is : I
             whole_front.all q inside v (SameSet-trans t (SetOfState a q) (residual_by (SetOfState a start) v) (residual_by X v) reached moved);
       }
 
-  pub expands-count : (n : ℕ) → CostIs (SameResidual t X) t n → a.states ≡ n
-  expands-count n cost = is-unique (SameResidual t X) t (residual-equivalence t X) a.states n expands-cost cost
+  -- at most as many states as a bound on the residuals
+  pub expands-within : (n : ℕ) → CostWithin (SameResidual t X) t n → a.states ≤ n
+  expands-within n within =
+      elim (cases_lt n a.states) [
+        | inl over ↦ absurd (costs-exclude (SameResidual t X) t (residual-equivalence t X) n (is-above (SameResidual t X) t a.states n over expands-cost) within)
+        | inr le ↦ le
+      ]

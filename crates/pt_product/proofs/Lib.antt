@@ -1,11 +1,12 @@
 pub mod Tracks
-pub mod SideLaws
 pub mod PairLaws
 pub mod CombinedSets
 pub mod Finished
 pub mod Keys
 pub mod Visits
 pub mod Moving
+pub mod Transfers
+pub mod Combined
 pub mod Wide
 pub mod Turned
 pub mod Expanded

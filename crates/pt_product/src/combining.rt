@@ -8,11 +8,13 @@ ghost use Rattle.pt_sets.specs.Costs.{SamePair, CostIs, CostWithin};
 ghost use Rattle.pt_handles.specs.Handles.{IsKnown, Has, SetOfHandle};
 ghost use Rattle.pt_handles.specs.Refusing.{StatesOnlyAbove, RefusedOnlyWhere};
 ghost use Rattle.pt_product.specs.Operations.{combined};
+ghost use Rattle.pt_product.specs.Pairs.{IsFactor, WideSet};
 
+use crate::factor::Factor;
 use crate::search::search_pairs;
 use crate::side::Side;
 use pt_formula::Op;
-use pt_handles::{Handle, OpFault, TableFault, adopt, equal_sets_are_equal_handles};
+use pt_handles::{Handle, OpFault, TableFault, adopt, expand};
 use pt_store::{Codes, Interner};
 use pt_tables::Table;
 use std::alloc::Global;
@@ -23,8 +25,9 @@ use std::thread::Threads;
 /// `map[i]` of the result.
 ///
 /// `States` exactly where there are more pairs of residuals of the two sets than the bound: the states of the table are
-/// these pairs. They are met breadth first and numbered through a hash index, in time and memory of pairs times letters;
-/// the search ends at the first pair past the bound.
+/// these pairs. Both sets are expanded once, in time and memory of the states that they reach times letters; the pairs are
+/// met breadth first and numbered through a hash index, in time and memory of pairs times letters, and the search ends at
+/// the first pair past the bound.
 pub fn combine_table<P: Codes>(
     alloc: Global,
     pass: &P,
@@ -44,6 +47,7 @@ pub fn combine_table<P: Codes>(
     requires some { 0 < bound }
     requires few { bound ≤ 65536 }
     ensures tracks { IfOk result (λ table. table.tracks ≡ tracks) }
+    ensures some { IfOk result (λ table. 0 < table.states) }
     ensures few { IfOk result (λ table. table.states ≤ bound) }
     ensures set { IfOk result (λ table. SameSet tracks (SetOfState table 0)
         (combined op (widened map_a.now (SetOfHandle (P.lists pass.now) a)) (widened map_b.now (SetOfHandle (P.lists pass.now) b)))) }
@@ -54,9 +58,9 @@ pub fn combine_table<P: Codes>(
     ensures above { IfErr result (StatesOnlyAbove
         (SamePair tracks (widened map_a.now (SetOfHandle (P.lists pass.now) a)) (widened map_b.now (SetOfHandle (P.lists pass.now) b))) tracks bound) }
 {
-    equal_sets_are_equal_handles();
-    let (side_a, side_b) = sides(alloc, a, map_a, b, map_b, tracks)?;
-    let search = search_pairs(alloc, pass, op, &side_a, &side_b, bound)?;
+    let first = factor(alloc, pass, a, map_a, tracks)?;
+    let second = factor(alloc, pass, b, map_b, tracks)?;
+    let search = search_pairs(alloc, op, &first, &second, bound)?;
     let states = search.pairs.len() as u32;
     Ok(Table::from_parts(tracks, states, search.outputs, search.edges))
 }
@@ -99,40 +103,30 @@ pub fn combine<R: Threads + Sync, I: Interner>(
         (combined op (widened map_a.now (SetOfHandle (I.Pass.lists pass.old) a)) (widened map_b.now (SetOfHandle (I.Pass.lists pass.old) b)))) }
     ensures offers { I.Pass.offered pass.new ≤ I.Pass.offered pass.old + bound }
 {
-    let table = match combine_table(alloc, &*pass, op, a, map_a, b, map_b, tracks, bound) {
-        Ok(table) => table,
-        Err(fault) => return Err(OpFault::from(fault)),
-    };
-    let _valid = table.states();
+    let table = combine_table(alloc, &*pass, op, a, map_a, b, map_b, tracks, bound)?;
     match adopt(rt, alloc, store, pass, &table, 0) {
         Ok(handle) => Ok(handle),
         Err(fault) => Err(OpFault::from(fault)),
     }
 }
 
-/// The two sets over the tracks of the result.
-fn sides(
+/// One of the sets, as a table over some of the tracks of the result.
+fn factor<P: Codes>(
     alloc: Global,
-    a: Handle,
-    map_a: &[u8],
-    b: Handle,
-    map_b: &[u8],
+    pass: &P,
+    handle: Handle,
+    map: &[u8],
     tracks: u32,
-) -> Result<(Side, Side), TableFault>
-    requires map_a { IsTrackMap a.tracks tracks map_a.now }
-    requires map_b { IsTrackMap b.tracks tracks map_b.now }
-    requires few_a { a.tracks ≤ 10 }
-    requires few_b { b.tracks ≤ 10 }
+) -> Result<Factor, TableFault>
+    requires known { IsKnown P.home (P.lists pass.now) handle }
+    requires map { IsTrackMap handle.tracks tracks map.now }
     requires tracks { tracks ≤ 10 }
-    ensures a { IfOk result (λ r. r.0 ≡ record { handle = a; map = map_a.now; tracks = tracks }) }
-    ensures b { IfOk result (λ r. r.1 ≡ record { handle = b; map = map_b.now; tracks = tracks }) }
+    ensures factor { IfOk result (λ factor. IsFactor factor) }
+    ensures set { IfOk result (λ factor. SameSet tracks (WideSet factor) (widened map.now (SetOfHandle (P.lists pass.now) handle))) }
+    ensures tracks { IfOk result (λ factor. factor.tracks ≡ tracks) }
     ensures err { IfErr result (λ fault. fault ≡ TableFault.NoMemory) }
 {
-    match (
-        Side::new(alloc, a, map_a, tracks),
-        Side::new(alloc, b, map_b, tracks),
-    ) {
-        (Ok(side_a), Ok(side_b)) => Ok((side_a, side_b)),
-        _ => Err(TableFault::NoMemory),
-    }
+    let (table, start) = expand(alloc, pass, handle)?;
+    let side = Side::new(alloc, handle, map, tracks)?;
+    Ok(Factor::new(table, start, side))
 }

@@ -2,12 +2,15 @@
 #![tactic(auto)]
 
 mod combining;
+mod factor;
+mod laws;
 mod pair;
 mod search;
 mod side;
 mod unary;
 
 pub use combining::{combine, combine_table};
+pub use laws::pair_costs_exclude_each_other;
 pub use pt_formula::Op;
 pub use unary::{complement, widen};
 

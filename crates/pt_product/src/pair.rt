@@ -1,22 +1,18 @@
 // Pairs of states.
-ghost use Rattle.std.specs.Prelude.{◌≡◌, ◌<◌, ◌^◌, [], ◌∷◌};
+ghost use Rattle.std.specs.Prelude.{◌≡◌, ◌<◌, ◌^◌};
+ghost use Rattle.pt_sets.specs.Automata.{next_of, output_of};
 ghost use Rattle.pt_sets.specs.Costs.{restricted};
-ghost use Rattle.pt_sets.specs.Languages.{quotient};
-ghost use Rattle.pt_handles.specs.Handles.{IsKnown, language_of_handle};
 ghost use Rattle.pt_product.specs.Operations.{truth};
-ghost use Rattle.pt_product.specs.Pairs.{HasLanguage};
 
-use crate::side::Side;
+use crate::factor::Factor;
 use pt_formula::Op;
-use pt_handles::Handle;
-use pt_store::Codes;
 use std::hash::Hash;
 
-/// A state of each of two sets.
+/// A state of each of two factors.
 #[derive(Clone, Copy, Debug, PartialEq, Eq, Hash)]
 pub(crate) struct Pair {
-    pub(crate) a: Handle,
-    pub(crate) b: Handle,
+    pub(crate) a: u32,
+    pub(crate) b: u32,
 }
 
 /// The operation on two answers.
@@ -31,41 +27,30 @@ fn apply(op: Op, a: bool, b: bool) -> bool
     }
 }
 
-/// The pair of residuals of a pair by a letter of the result.
-pub(crate) fn next_pair<P: Codes>(pass: &P, pair: Pair, a: &Side, b: &Side, letter: u16) -> Pair
-    requires known_a { IsKnown P.home (P.lists pass.now) pair.a }
-    requires known_b { IsKnown P.home (P.lists pass.now) pair.b }
-    requires tracks_a { pair.a.tracks ≡ a.now.handle.tracks }
-    requires tracks_b { pair.b.tracks ≡ b.now.handle.tracks }
+/// The pair behind a pair by a letter of the result.
+pub(crate) fn next_pair(pair: Pair, a: &Factor, b: &Factor, letter: u16) -> Pair
+    requires in_a { pair.a < a.now.table.states }
+    requires in_b { pair.b < b.now.table.states }
     requires letter_a { letter < 2 ^ a.now.tracks }
     requires letter_b { letter < 2 ^ b.now.tracks }
-    ensures a { HasLanguage P.home (P.lists pass.now) pair.a.tracks (quotient (language_of_handle (P.lists pass.now) pair.a) (restricted a.now.map letter ∷ [])) result.a }
-    ensures b { HasLanguage P.home (P.lists pass.now) pair.b.tracks (quotient (language_of_handle (P.lists pass.now) pair.b) (restricted b.now.map letter ∷ [])) result.b }
+    ensures a { result.a ≡ next_of a.now.table pair.a (restricted a.now.map letter) }
+    ensures b { result.b ≡ next_of b.now.table pair.b (restricted b.now.map letter) }
 {
     Pair {
-        a: a.next(pass, pair.a, letter),
-        b: b.next(pass, pair.b, letter),
+        a: a.next(pair.a, letter),
+        b: b.next(pair.b, letter),
     }
 }
 
 /// The answer of a pair at a sign of the result.
-pub(crate) fn pair_answer<P: Codes>(
-    pass: &P,
-    op: Op,
-    pair: Pair,
-    a: &Side,
-    b: &Side,
-    sign: u16,
-) -> bool
-    requires known_a { IsKnown P.home (P.lists pass.now) pair.a }
-    requires known_b { IsKnown P.home (P.lists pass.now) pair.b }
-    requires tracks_a { pair.a.tracks ≡ a.now.handle.tracks }
-    requires tracks_b { pair.b.tracks ≡ b.now.handle.tracks }
+pub(crate) fn pair_answer(op: Op, pair: Pair, a: &Factor, b: &Factor, sign: u16) -> bool
+    requires in_a { pair.a < a.now.table.states }
+    requires in_b { pair.b < b.now.table.states }
     requires sign_a { sign < 2 ^ a.now.tracks }
     requires sign_b { sign < 2 ^ b.now.tracks }
-    ensures { result ≡ truth op (language_of_handle (P.lists pass.now) pair.a [] (restricted a.now.map sign)) (language_of_handle (P.lists pass.now) pair.b [] (restricted b.now.map sign)) }
+    ensures { result ≡ truth op (output_of a.now.table pair.a (restricted a.now.map sign)) (output_of b.now.table pair.b (restricted b.now.map sign)) }
 {
-    let in_a = a.answer(pass, pair.a, sign);
-    let in_b = b.answer(pass, pair.b, sign);
+    let in_a = a.answer(pair.a, sign);
+    let in_b = b.answer(pair.b, sign);
     apply(op, in_a, in_b)
 }

@@ -6,12 +6,11 @@ ghost use Rattle.pt_sets.specs.Numbering.{Adds};
 ghost use Rattle.pt_product.specs.Pairs.{task, IsTask, same_pair, IsFull};
 ghost use Rattle.pt_product.specs.Searching.{HasProgress};
 
+use crate::factor::Factor;
 use crate::pair::{Pair, next_pair, pair_answer};
-use crate::side::Side;
 use indexmap::IndexSet;
 use pt_formula::Op;
-use pt_handles::{Handle, TableFault, equal_sets_are_equal_handles};
-use pt_store::Codes;
+use pt_handles::TableFault;
 use std::alloc::Global;
 
 /// The numbered pairs, with an output and a successor for each cell so far.
@@ -37,10 +36,8 @@ fn number_of(pairs: &mut IndexSet<Pair>, pair: Pair, bound: u32) -> Result<u32, 
     if number == bound {
         return Err(TableFault::States { bound });
     }
-    match pairs.insert(pair) {
-        Ok(_) => Ok(number),
-        Err(_) => Err(TableFault::NoMemory),
-    }
+    pairs.insert(pair)?;
+    Ok(number)
 }
 
 /// Puts an answer and a number behind the cells.
@@ -50,14 +47,9 @@ fn push_cell(search: &mut Search, answer: bool, number: u32) -> Result<(), Table
     ensures pairs { search.new.pairs ≡ search.old.pairs }
     ensures err { IfErr result (λ fault. fault ≡ TableFault.NoMemory) }
 {
-    match search.outputs.push(answer) {
-        Ok(()) => {}
-        Err(_) => return Err(TableFault::NoMemory),
-    }
-    match search.edges.push(number) {
-        Ok(()) => Ok(()),
-        Err(_) => Err(TableFault::NoMemory),
-    }
+    search.outputs.push(answer)?;
+    search.edges.push(number)?;
+    Ok(())
 }
 
 /// The pair of a number.
@@ -72,95 +64,86 @@ fn pair_at(pairs: &IndexSet<Pair>, number: u32) -> Pair
 }
 
 /// One cell: the answer of a pair at a letter, and the number of the pair behind it.
-fn visit_letter<P: Codes>(
-    pass: &P,
+fn visit_letter(
     op: Op,
-    a: &Side,
-    b: &Side,
+    a: &Factor,
+    b: &Factor,
     bound: u32,
     search: &mut Search,
     state: u32,
     letter: u16,
 ) -> Result<(), TableFault>
-    requires task { IsTask (task P.home (P.lists pass.now) op a.now b.now) }
-    requires tracks { b.now.tracks ≡ a.now.tracks }
+    requires task { IsTask (task op a.now b.now) }
     requires state { state < index_set_len search.old.pairs }
     requires letter { letter < 2 ^ a.now.tracks }
-    requires progress { HasProgress (task P.home (P.lists pass.now) op a.now b.now) bound search.old (state * 2 ^ a.now.tracks + letter) }
-    ensures progress { OnOk result (HasProgress (task P.home (P.lists pass.now) op a.now b.now) bound search.new (state * 2 ^ a.now.tracks + (letter + 1))) }
+    requires progress { HasProgress (task op a.now b.now) bound search.old (state * 2 ^ a.now.tracks + letter) }
+    ensures progress { OnOk result (HasProgress (task op a.now b.now) bound search.new (state * 2 ^ a.now.tracks + (letter + 1))) }
     ensures grows { OnOk result (index_set_len search.old.pairs ≤ index_set_len search.new.pairs) }
-    ensures above { IfErr result (StatesOnlyAbove (same_pair (task P.home (P.lists pass.now) op a.now b.now)) a.now.tracks bound) }
+    ensures above { IfErr result (StatesOnlyAbove (same_pair (task op a.now b.now)) a.now.tracks bound) }
 {
-    equal_sets_are_equal_handles();
     let pair = pair_at(&search.pairs, state);
-    let next = next_pair(pass, pair, a, b, letter);
-    let answer = pair_answer(pass, op, pair, a, b, letter);
+    let next = next_pair(pair, a, b, letter);
+    let answer = pair_answer(op, pair, a, b, letter);
     let number = number_of(&mut search.pairs, next, bound)?;
     push_cell(search, answer, number)
 }
 
 /// The cells of one pair.
-fn visit_state<P: Codes>(
-    pass: &P,
+fn visit_state(
     op: Op,
-    a: &Side,
-    b: &Side,
+    a: &Factor,
+    b: &Factor,
     bound: u32,
     search: &mut Search,
     state: u32,
 ) -> Result<(), TableFault>
-    requires task { IsTask (task P.home (P.lists pass.now) op a.now b.now) }
-    requires tracks { b.now.tracks ≡ a.now.tracks }
+    requires task { IsTask (task op a.now b.now) }
     requires state { state < index_set_len search.old.pairs }
-    requires progress { HasProgress (task P.home (P.lists pass.now) op a.now b.now) bound search.old (state * 2 ^ a.now.tracks) }
-    ensures progress { OnOk result (HasProgress (task P.home (P.lists pass.now) op a.now b.now) bound search.new ((state + 1) * 2 ^ a.now.tracks)) }
+    requires progress { HasProgress (task op a.now b.now) bound search.old (state * 2 ^ a.now.tracks) }
+    ensures progress { OnOk result (HasProgress (task op a.now b.now) bound search.new ((state + 1) * 2 ^ a.now.tracks)) }
     ensures grows { OnOk result (index_set_len search.old.pairs ≤ index_set_len search.new.pairs) }
-    ensures above { IfErr result (StatesOnlyAbove (same_pair (task P.home (P.lists pass.now) op a.now b.now)) a.now.tracks bound) }
+    ensures above { IfErr result (StatesOnlyAbove (same_pair (task op a.now b.now)) a.now.tracks bound) }
 {
     for letter in 0..a.letters() {
-        visit_letter(pass, op, a, b, bound, search, state, letter)?;
+        visit_letter(op, a, b, bound, search, state, letter)?;
     }
     Ok(())
 }
 
 /// The search before its first cell.
-fn first_search(alloc: Global, a: Handle, b: Handle) -> Result<Search, TableFault>
+fn first_search(alloc: Global, a: u32, b: u32) -> Result<Search, TableFault>
     ensures pairs { IfOk result (λ search. search.pairs.keys ≡ (record { a = a; b = b }) ∷ []) }
     ensures outputs { IfOk result (λ search. search.outputs.items ≡ []) }
     ensures edges { IfOk result (λ search. search.edges.items ≡ []) }
     ensures err { IfErr result (λ fault. fault ≡ TableFault.NoMemory) }
 {
     let mut pairs = IndexSet::new(alloc);
-    match pairs.insert(Pair { a, b }) {
-        Ok(_) => Ok(Search {
-            pairs,
-            outputs: Vec::new(alloc),
-            edges: Vec::new(alloc),
-        }),
-        Err(_) => Err(TableFault::NoMemory),
-    }
+    pairs.insert(Pair { a, b })?;
+    Ok(Search {
+        pairs,
+        outputs: Vec::new(alloc),
+        edges: Vec::new(alloc),
+    })
 }
 
 /// All pairs that are reached, with their cells.
-pub(crate) fn search_pairs<P: Codes>(
+pub(crate) fn search_pairs(
     alloc: Global,
-    pass: &P,
     op: Op,
-    a: &Side,
-    b: &Side,
+    a: &Factor,
+    b: &Factor,
     bound: u32,
 ) -> Result<Search, TableFault>
-    requires task { IsTask (task P.home (P.lists pass.now) op a.now b.now) }
-    requires tracks { b.now.tracks ≡ a.now.tracks }
+    requires task { IsTask (task op a.now b.now) }
     requires some { 0 < bound }
     requires few { bound ≤ 65536 }
-    ensures done { IfOk result (λ search. HasProgress (task P.home (P.lists pass.now) op a.now b.now) bound search (index_set_len search.pairs * 2 ^ a.now.tracks)) }
-    ensures above { IfErr result (StatesOnlyAbove (same_pair (task P.home (P.lists pass.now) op a.now b.now)) a.now.tracks bound) }
+    ensures done { IfOk result (λ search. HasProgress (task op a.now b.now) bound search (index_set_len search.pairs * 2 ^ a.now.tracks)) }
+    ensures above { IfErr result (StatesOnlyAbove (same_pair (task op a.now b.now)) a.now.tracks bound) }
 {
-    let mut search = first_search(alloc, a.handle(), b.handle())?;
+    let mut search = first_search(alloc, a.start(), b.start())?;
     let mut state: u32 = 0;
     while (state as usize) < search.pairs.len() {
-        visit_state(pass, op, a, b, bound, &mut search, state)?;
+        visit_state(op, a, b, bound, &mut search, state)?;
         state += 1;
     }
     Ok(search)

@@ -1,15 +1,12 @@
 // One of two sets, over the tracks of the result.
-ghost use Rattle.std.specs.Prelude.{◌≡◌, ◌<◌, ◌≤◌, ◌^◌, [], ◌∷◌, length, IfOk};
+ghost use Rattle.std.specs.Prelude.{◌≡◌, ◌<◌, ◌≤◌, ◌^◌, length, IfOk};
 ghost use Rattle.pt_sets.specs.Costs.{restricted};
 ghost use Rattle.pt_sets.specs.Words.{IsLetter};
-ghost use Rattle.pt_sets.specs.Languages.{quotient};
 ghost use Rattle.pt_sets.specs.Restricting.{IsTrackMap};
-ghost use Rattle.pt_handles.specs.Handles.{IsKnown, language_of_handle};
-ghost use Rattle.pt_product.specs.Pairs.{HasLanguage, AreRestrictions};
+ghost use Rattle.pt_product.specs.Pairs.{AreRestrictions};
 
 use pt_digits::{NoMemory, restrict};
-use pt_handles::{Handle, output, step};
-use pt_store::Codes;
+use pt_handles::Handle;
 use std::alloc::Global;
 use std::marker::Model;
 
@@ -72,12 +69,6 @@ impl Side {
         })
     }
 
-    pub(crate) fn handle(&self) -> Handle
-        ensures { result ≡ self.now.handle }
-    {
-        self.handle
-    }
-
     /// The tracks of the result.
     pub(crate) fn tracks(&self) -> u32
         ensures tracks { result ≡ self.now.tracks }
@@ -101,25 +92,5 @@ impl Side {
         ensures letter { IsLetter self.now.handle.tracks result }
     {
         self.letters[letter as usize]
-    }
-
-    /// The residual of a state of the handle's by a letter of the result.
-    pub(crate) fn next<P: Codes>(&self, pass: &P, state: Handle, letter: u16) -> Handle
-        requires known { IsKnown P.home (P.lists pass.now) state }
-        requires tracks { state.tracks ≡ self.now.handle.tracks }
-        requires letter { letter < 2 ^ self.now.tracks }
-        ensures { HasLanguage P.home (P.lists pass.now) state.tracks (quotient (language_of_handle (P.lists pass.now) state) (restricted self.now.map letter ∷ [])) result }
-    {
-        step(pass, state, self.restricted(letter))
-    }
-
-    /// The output of a state of the handle's at a sign of the result.
-    pub(crate) fn answer<P: Codes>(&self, pass: &P, state: Handle, sign: u16) -> bool
-        requires known { IsKnown P.home (P.lists pass.now) state }
-        requires tracks { state.tracks ≡ self.now.handle.tracks }
-        requires sign { sign < 2 ^ self.now.tracks }
-        ensures { result ≡ language_of_handle (P.lists pass.now) state [] (restricted self.now.map sign) }
-    {
-        output(pass, state, self.restricted(sign))
     }
 }

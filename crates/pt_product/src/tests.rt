@@ -27,7 +27,7 @@ fn sign_table(alloc: Global, sign: u16) -> Result<Table, Fail>
     builder.edge(none, 0, none);
     builder.edge(none, 1, none);
     builder.output(only, if sign == 0 { 0 } else { 1 }, true);
-    let table = builder.finish()?;
+    let table = builder.finish(alloc)?;
     if table.states() < 2 || table.tracks() != 1 {
         return Err("table")?;
     }
@@ -48,9 +48,9 @@ fn combined_signs<R: Threads + Sync>(
     if bound == 0 || bound > 65_536 {
         return Err("bound")?;
     }
+    pair_costs_exclude_each_other(&pass);
     match combine_table(alloc, &pass, op, zero, &[0], minus, &[0], 1, bound) {
         Ok(table) => {
-            let _valid = table.states();
             Ok(Ok([
                 table.member(0, &[0]),
                 table.member(0, &[-1]),
@@ -96,7 +96,6 @@ fn combined_apart<R: Threads + Sync>(
     let minus = adopt(rt, alloc, &store, &mut pass, &sign_table(alloc, 1)?, 0)?;
     longer_lists_know();
     let table = combine_table(alloc, &pass, op, zero, &[0], minus, &[2], 3, 4)?;
-    let _valid = table.states();
     Ok(table.member(0, z.as_slice()))
 }
 
@@ -109,7 +108,7 @@ fn combined_without_tracks<R: Threads + Sync>(rt: &R, alloc: Global, op: Op) -> 
     builder.edge(whole, 0, whole);
     builder.edge(none, 0, none);
     builder.output(whole, 0, true);
-    let table = builder.finish()?;
+    let table = builder.finish(alloc)?;
     if table.states() < 2 || table.tracks() != 0 {
         return Err("table")?;
     }
@@ -117,7 +116,6 @@ fn combined_without_tracks<R: Threads + Sync>(rt: &R, alloc: Global, op: Op) -> 
     let other = adopt(rt, alloc, &store, &mut pass, &table, 1)?;
     longer_lists_know();
     let combined = combine_table(alloc, &pass, op, one, &[], other, &[], 0, 1)?;
-    let _valid = combined.states();
     Ok(combined.member(0, &[]))
 }
 
@@ -166,6 +164,23 @@ fn is_outside<R: Threads + Sync>(rt: &R, alloc: Global, state: u32, x: i128) -> 
     Ok(table.member(start, &[x]))
 }
 
+/// Whether the complement of the empty set is the handle of all numbers.
+fn all_are_outside_none<R: Threads + Sync>(rt: &R, alloc: Global) -> Result<bool, Fail> {
+    let (store, mut pass) = LocalStore::new(alloc, 1, 100, OneShard)?;
+    let none = adopt(rt, alloc, &store, &mut pass, &sign_table(alloc, 0)?, 1)?;
+    let others = complement(rt, alloc, &store, &mut pass, none)?;
+    let mut builder = Builder::new(alloc, 1)?;
+    let whole = builder.state()?;
+    for letter in 0..2u16 {
+        builder.edge(whole, letter, whole);
+        builder.output(whole, letter, true);
+    }
+    let table = builder.finish(alloc)?;
+    table.is_automaton();
+    let all = adopt(rt, alloc, &store, &mut pass, &table, 0)?;
+    Ok(same(others, all))
+}
+
 /// Whether a pair is in {0} over the second of two tracks.
 fn is_second_zero<R: Threads + Sync>(rt: &R, alloc: Global, z: [i128; 2]) -> Result<bool, Fail> {
     let (store, mut pass) = LocalStore::new(alloc, 1, 100, OneShard)?;
@@ -182,6 +197,7 @@ fn complements_and_more_tracks(rt: HostRuntime) -> Result<(), Fail> {
         assert_eq!(rt; is_outside(&rt, alloc, 0, x)?, is_other);
         assert!(rt; is_outside(&rt, alloc, 1, x)?);
     }
+    assert!(rt; all_are_outside_none(&rt, alloc)?);
     for (z, is_in) in [
         ([5, 0], true),
         ([-3, 0], true),

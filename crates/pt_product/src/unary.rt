@@ -2,7 +2,7 @@
 ghost use Rattle.std.specs.Prelude.{◌≡◌, ℕ, ◌+◌, ◌≤◌, IfOk, IfErr, not};
 ghost use Rattle.std.specs.Prelude.{map as mapped};
 ghost use Rattle.pt_sets.specs.Automata.{IsAutomaton};
-ghost use Rattle.pt_sets.specs.Costs.{CostIs, SameResidual};
+ghost use Rattle.pt_sets.specs.Costs.{CostWithin, SameResidual};
 ghost use Rattle.pt_sets.specs.Lists.{Extends};
 ghost use Rattle.pt_sets.specs.Restricting.{IsTrackMap, widened};
 ghost use Rattle.pt_handles.specs.Handles.{IsKnown, Has, FullOnlyWhereLacking, SetOfHandle};
@@ -34,7 +34,7 @@ pub fn complement<R: Threads + Sync, I: Interner>(
     ensures extends { Extends (I.Pass.lists pass.old) (I.Pass.lists pass.new) }
     ensures ok { IfOk result (Has I.Pass.home (I.Pass.lists pass.new) a.tracks (outside (SetOfHandle (I.Pass.lists pass.old) a))) }
     ensures full { IfErr result (FullOnlyWhereLacking I.Pass.home (I.limit_of store.now) (I.Pass.lists pass.new) a.tracks (outside (SetOfHandle (I.Pass.lists pass.old) a))) }
-    ensures offers { (n : ℕ) → CostIs (SameResidual a.tracks (SetOfHandle (I.Pass.lists pass.old) a)) a.tracks n → I.Pass.offered pass.new ≤ I.Pass.offered pass.old + n }
+    ensures offers { (n : ℕ) → CostWithin (SameResidual a.tracks (SetOfHandle (I.Pass.lists pass.old) a)) a.tracks n → I.Pass.offered pass.new ≤ I.Pass.offered pass.old + n }
 {
     let (table, start) = match expand(alloc, &*pass, a) {
         Ok(expanded) => expanded,
@@ -86,7 +86,7 @@ pub fn widen<R: Threads + Sync, I: Interner>(
     ensures extends { Extends (I.Pass.lists pass.old) (I.Pass.lists pass.new) }
     ensures ok { IfOk result (Has I.Pass.home (I.Pass.lists pass.new) tracks (widened map.now (SetOfHandle (I.Pass.lists pass.old) a))) }
     ensures full { IfErr result (FullOnlyWhereLacking I.Pass.home (I.limit_of store.now) (I.Pass.lists pass.new) tracks (widened map.now (SetOfHandle (I.Pass.lists pass.old) a))) }
-    ensures offers { (n : ℕ) → CostIs (SameResidual a.tracks (SetOfHandle (I.Pass.lists pass.old) a)) a.tracks n → I.Pass.offered pass.new ≤ I.Pass.offered pass.old + n }
+    ensures offers { (n : ℕ) → CostWithin (SameResidual a.tracks (SetOfHandle (I.Pass.lists pass.old) a)) a.tracks n → I.Pass.offered pass.new ≤ I.Pass.offered pass.old + n }
 {
     let (table, start) = match expand(alloc, &*pass, a) {
         Ok(expanded) => expanded,

@@ -9,12 +9,12 @@ use Rattle.pt_product.specs.Operations.{combined}
 use Rattle.pt_product.proofs.Moving.{Has-same, full-same, of_store-refused}
 use Rattle.pt_product.proofs.combining.combine.Goals as goal
 
-pub returns-in-Ok-adopt-clause-ok : goal.returns-in-Ok-adopt-clause-ok
-returns-in-Ok-adopt-clause-ok g c =
+pub returns-in-Ok-clause-ok : goal.returns-in-Ok-clause-ok
+returns-in-Ok-clause-ok g c =
     let old = g.I.Pass.Codes.lists c.args.pass.now in
-    Has-same g.I.Pass.Codes.home (g.I.Pass.Codes.lists c.adopt.new.pass) c.in-Ok.table.tracks c.args.tracks (SetOfState c.in-Ok.table 0)
-    (combined c.args.op (widened c.args.map_a.now (SetOfHandle old c.args.a)) (widened c.args.map_b.now (SetOfHandle old c.args.b))) c.in-Ok-adopt.handle
-    c.in-Ok.ensures.tracks c.in-Ok.ensures.set c.in-Ok-adopt.ensures.ok
+    Has-same g.I.Pass.Codes.home (g.I.Pass.Codes.lists c.adopt.new.pass) c.in_ok-table.table.tracks c.args.tracks (SetOfState c.in_ok-table.table 0)
+    (combined c.args.op (widened c.args.map_a.now (SetOfHandle old c.args.a)) (widened c.args.map_b.now (SetOfHandle old c.args.b))) c.in-Ok.handle
+    c.in_ok-table.ensures.tracks c.in_ok-table.ensures.set c.in-Ok.ensures.ok
 
 pub returns-clause-err : goal.returns-clause-err
 returns-clause-err g c =
@@ -25,6 +25,6 @@ returns-clause-err g c =
     let over_a = widened c.args.map_a.now (SetOfHandle old c.args.a) in
     let over_b = widened c.args.map_b.now (SetOfHandle old c.args.b) in
     let whole = combined c.args.op over_a over_b in
-    let full = full-same home limit new c.in-Ok.table.tracks c.args.tracks (SetOfState c.in-Ok.table 0) whole c.in-Err-adopt.fault c.in-Ok.ensures.tracks c.in-Ok.ensures.set c.in-Err-adopt.ensures.full in
-    subst (λ (fault : OpFault). RefusedOnlyWhere (SamePair c.args.tracks over_a over_b) c.args.tracks c.args.bound home limit new c.args.tracks whole fault) (sym c.from-in-Err-adopt.ensures)
-    (of_store-refused (SamePair c.args.tracks over_a over_b) c.args.tracks c.args.bound home limit new c.args.tracks whole c.in-Err-adopt.fault full)
+    let full = full-same home limit new c.in_ok-table.table.tracks c.args.tracks (SetOfState c.in_ok-table.table 0) whole c.in-Err.fault c.in_ok-table.ensures.tracks c.in_ok-table.ensures.set c.in-Err.ensures.full in
+    subst (λ (fault : OpFault). RefusedOnlyWhere (SamePair c.args.tracks over_a over_b) c.args.tracks c.args.bound home limit new c.args.tracks whole fault) (sym c.from.ensures)
+    (of_store-refused (SamePair c.args.tracks over_a over_b) c.args.tracks c.args.bound home limit new c.args.tracks whole c.in-Err.fault full)

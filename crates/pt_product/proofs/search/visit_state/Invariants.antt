@@ -5,7 +5,7 @@ use Rattle.pt_product.specs.Searching.{HasProgress}
 use Rattle.pt_product.proofs.search.visit_state.Given as goal
 
 abbrev pub invariant-loop-letter : goal.invariant-loop-letter
-invariant-loop-letter g l = record {
-  progress : HasProgress (task g.P.Codes.home (g.P.Codes.lists l.pass) l.op l.a l.b) l.bound l.search (l.state * 2 ^ l.a.tracks + l.letter);
+invariant-loop-letter l = record {
+  progress : HasProgress (task l.op l.a l.b) l.bound l.search (l.state * 2 ^ l.a.tracks + l.letter);
   grows : index_set_len l.fn.search.pairs ≤ index_set_len l.search.pairs;
 }

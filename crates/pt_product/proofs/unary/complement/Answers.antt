@@ -1,9 +1,9 @@
-use Rattle.std.proofs.Common.{◌≡◌, ℕ, ◌+◌, ◌≤◌, ap, ◌∙◌, subst}
+use Rattle.std.proofs.Common.{◌≡◌, ap, ◌∙◌, arith}
 use Rattle.pt_sets.specs.Automata.{Automaton, SetOfState}
 use Rattle.pt_handles.specs.Handles.{Has, SetOfHandle, FullOnlyWhereLacking}
 use Rattle.pt_product.specs.Derived.{outside}
 use Rattle.pt_product.proofs.Moving.{Has-same, full-same}
-use Rattle.pt_product.proofs.Expanded.{expands-count}
+use Rattle.pt_product.proofs.Expanded.{expands-within}
 use Rattle.pt_product.proofs.Derivations.{ok-moved, err-moved, turned-start}
 use Rattle.pt_product.proofs.unary.complement.Goals as goal
 
@@ -35,6 +35,7 @@ returns-in-Ok-turned_table-clause-full g c =
 pub returns-in-Ok-turned_table-clause-offers : goal.returns-in-Ok-turned_table-clause-offers
 returns-in-Ok-turned_table-clause-offers g c n cost =
     let X = SetOfHandle (g.I.Pass.Codes.lists c.args.pass.now) c.args.a in
-    let states : c.in-Ok-turned_table.turned.states ≡ n = ap (λ (b : Automaton). b.states) c.in-Ok-turned_table.ensures.value
-    ∙ expands-count c.args.a.tracks X c.in-Ok.expanded.0 c.in-Ok.expanded.1 c.turned_table.ensures.valid c.in-Ok.ensures n cost in
-    subst (λ (k : ℕ). g.I.Pass.Codes.offered c.adopt.new.pass ≤ g.I.Pass.Codes.offered c.args.pass.now + k) states c.adopt.ensures.offers
+    let few = expands-within c.args.a.tracks X c.in-Ok.expanded.0 c.in-Ok.expanded.1 c.turned_table.ensures.valid c.in-Ok.ensures n cost in
+    let same : c.in-Ok-turned_table.turned.states ≡ c.in-Ok.expanded.0.states = ap (λ (b : Automaton). b.states) c.in-Ok-turned_table.ensures.value in
+    let offers = c.adopt.ensures.offers in
+    omega (arith, few, same, offers)

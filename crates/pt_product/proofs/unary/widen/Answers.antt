@@ -1,10 +1,10 @@
-use Rattle.std.proofs.Common.{◌≡◌, ℕ, List, ◌+◌, ◌≤◌, ◌∙◌, subst}
+use Rattle.std.proofs.Common.{◌≡◌, ℕ, List, subst, arith}
 use Rattle.pt_sets.specs.Automata.{SetOfState}
 use Rattle.pt_sets.specs.Restricting.{widened}
 use Rattle.pt_handles.specs.Handles.{Has, SetOfHandle, FullOnlyWhereLacking}
 use Rattle.pt_product.specs.Derived.{IsWide}
 use Rattle.pt_product.proofs.Moving.{Has-same, full-same}
-use Rattle.pt_product.proofs.Expanded.{expands-count}
+use Rattle.pt_product.proofs.Expanded.{expands-within}
 use Rattle.pt_product.proofs.Derivations.{ok-moved, err-moved, wide-start-set}
 use Rattle.pt_product.proofs.unary.widen.Goals as goal
 
@@ -44,6 +44,7 @@ returns-in-Ok-wide_table-clause-full g c =
 pub returns-in-Ok-wide_table-clause-offers : goal.returns-in-Ok-wide_table-clause-offers
 returns-in-Ok-wide_table-clause-offers g c n cost =
     let X = SetOfHandle (g.I.Pass.Codes.lists c.args.pass.now) c.args.a in
-    let states : c.in-Ok-wide_table.wide.states ≡ n = c.in-Ok-wide_table.ensures.wide.states
-    ∙ expands-count c.args.a.tracks X c.in-Ok.expanded.0 c.in-Ok.expanded.1 c.wide_table.ensures.valid c.in-Ok.ensures n cost in
-    subst (λ (k : ℕ). g.I.Pass.Codes.offered c.adopt.new.pass ≤ g.I.Pass.Codes.offered c.args.pass.now + k) states c.adopt.ensures.offers
+    let few = expands-within c.args.a.tracks X c.in-Ok.expanded.0 c.in-Ok.expanded.1 c.wide_table.ensures.valid c.in-Ok.ensures n cost in
+    let same = c.in-Ok-wide_table.ensures.wide.states in
+    let offers = c.adopt.ensures.offers in
+    omega (arith, few, same, offers)
