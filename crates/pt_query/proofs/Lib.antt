@@ -6,10 +6,8 @@ pub mod Residuals
 pub mod WalkSteps
 pub mod Access
 pub mod Least
-pub mod Partners
-pub mod PartnerSteps
-pub mod Unions
 pub mod Bounds
+pub mod Alike
 pub mod Singles
 pub mod PartLists
 pub mod FiniteSets
@@ -19,6 +17,8 @@ pub mod FreshMembers
 pub mod FirstMembers
 pub mod SpreadSteps
 pub mod Levels
-pub mod OwnTracks
 pub mod Causes
 pub mod Fitting
+pub mod PairKeys
+pub mod PairSteps
+pub mod Included

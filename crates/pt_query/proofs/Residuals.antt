@@ -53,6 +53,24 @@ module _ (t : ℕ) (X : VectorSet) (a : Automaton) (start : ℕ) (valid : IsAuto
   reached : (q : ℕ) → q < a.states → IsReached t Stands q
   reached q inside = let (w, letters, same) = e.reached q inside in (w, letters, (inside, same))
 
+  -- the state after letters has the residual by them
+  pub run-set : (w : List ℕ) → AreLetters t w → SameSet t (SetOfState a (run (next_of a) (output_of a) start w)) (residual_by X w)
+  run-set w letters =
+      let ls = subst (λ (n : ℕ). AreLetters n w) (sym e.tracks) letters in
+      let q = run (next_of a) (output_of a) start w in
+      let has = subst (λ (n : ℕ). SameSet n (SetOfState a q) (residual_by (SetOfState a start) w)) e.tracks (state-residual a valid start w e.in_range ls) in
+      SameSet-trans t (SetOfState a q) (residual_by (SetOfState a start) w) (residual_by X w) has (residual-same t (SetOfState a start) X w e.set)
+
+  -- states after letters are one where the residuals are
+  pub run-one : (v w : List ℕ) → AreLetters t v → AreLetters t w → SameResidual t X v w → run (next_of a) (output_of a) start v ≡ run (next_of a) (output_of a) start w
+  run-one v w in_v in_w same =
+      let at : List ℕ → ℕ = λ u. run (next_of a) (output_of a) start u in
+      let inside : (u : List ℕ) → AreLetters t u → at u < a.states = λ u letters. run-within a valid start u e.in_range (subst (λ (n : ℕ). AreLetters n u) (sym e.tracks) letters) in
+      e.reduced (at v) (at w) (inside v in_v) (inside w in_w)
+      (subst (λ (n : ℕ). SameSet n (SetOfState a (at v)) (SetOfState a (at w))) (sym e.tracks)
+      (SameSet-trans t (SetOfState a (at v)) (residual_by X v) (SetOfState a (at w)) (run-set v in_v)
+      (SameSet-trans t (residual_by X v) (residual_by X w) (SetOfState a (at w)) same (SameSet-sym t (SetOfState a (at w)) (residual_by X w) (run-set w in_w)))))
+
   pub residual-state : (w : List ℕ) → AreLetters t w → (q : ℕ) × (q < a.states) × SameSet t (SetOfState a q) (residual_by X w)
   residual-state w letters =
       let ls = subst (λ (n : ℕ). AreLetters n w) (sym e.tracks) letters in

@@ -1,9 +1,10 @@
 pub mod Queries
+pub mod Laws
 pub mod Shifting
 pub mod Steps
 pub mod Walks
 pub mod Narrow
-pub mod Partners
 pub mod Tame
 pub mod Fresh
 pub mod Spreads
+pub mod Pairs

@@ -1,4 +1,7 @@
 // Why members are not given.
+ghost use Rattle.std.specs.Prelude.{◌≡◌};
+ghost use Rattle.pt_query.specs.declared.fault.WitnessFault.TheVariants as witness_fault;
+
 use pt_tables::NoMemory;
 use std::alloc::{AllocError, AllocFailed};
 
@@ -10,4 +13,28 @@ pub enum WitnessFault {
     Wide { letters: u32 },
     /// There is no memory.
     NoMemory,
+}
+
+impl From<NoMemory> for WitnessFault {
+    ghost from_gives = { λ _ fault. fault ≡ witness_fault.NoMemory };
+
+    fn from(_error: NoMemory) -> Self {
+        WitnessFault::NoMemory
+    }
+}
+
+impl From<AllocError> for WitnessFault {
+    ghost from_gives = { λ _ fault. fault ≡ witness_fault.NoMemory };
+
+    fn from(_error: AllocError) -> Self {
+        WitnessFault::NoMemory
+    }
+}
+
+impl<T: Drop> From<AllocFailed<T>> for WitnessFault {
+    ghost from_gives = { λ _ fault. fault ≡ witness_fault.NoMemory };
+
+    fn from(_failed: AllocFailed<T>) -> Self {
+        WitnessFault::NoMemory
+    }
 }

@@ -28,7 +28,7 @@ fn is_still_at(table: &Table, state: u32, letter: u16) -> bool
     requires letter { letter < 2 ^ table.now.tracks }
     ensures { IsTrue result ↔ IsStill table.now.tracks (SetOfState table.now state) letter }
 {
-    let _valid = table.states();
+    table.is_automaton();
     if table.output(state, letter) {
         return false;
     }
@@ -41,7 +41,6 @@ fn has_none(table: &Table, state: u32) -> bool
     requires state { state < table.now.states }
     ensures { IsTrue result ↔ IsEmptySet table.now.tracks (SetOfState table.now state) }
 {
-    let _valid = table.states();
     for letter in 0..letters(table.tracks()) {
         if !is_still_at(table, state, letter) {
             return false;
@@ -71,7 +70,7 @@ fn is_off(table: &Table, empty: Option<u32>, state: u32, letter: u16) -> bool
     requires letter { letter < 2 ^ table.now.tracks }
     ensures { IsTrue result ↔ IsOff table.now state letter }
 {
-    let _valid = table.states();
+    table.is_automaton();
     if table.output(state, letter) {
         return false;
     }
@@ -87,7 +86,6 @@ fn loop_letter(table: &Table, state: u32) -> Option<u16>
     ensures some { IfSome result (λ l. (l < 2 ^ table.now.tracks) × (next_of table.now state l ≡ state)) }
     ensures none { IfNone result (HasLoop table.now state → ⊥) }
 {
-    let _valid = table.states();
     for letter in 0..letters(table.tracks()) {
         if is_same(table.next(state, letter), state) {
             return Some(letter);
@@ -106,7 +104,6 @@ fn is_single(table: &Table, empty: Option<u32>, state: u32, sign: u16) -> bool
     requires loop_ { next_of table.now state sign ≡ state }
     ensures { IsTrue result ↔ IsSingle table.now.tracks (SetOfState table.now state) }
 {
-    let _valid = table.states();
     for letter in 0..letters(table.tracks()) {
         if letter != sign && !is_off(table, empty, state, letter) {
             return false;
@@ -123,7 +120,7 @@ fn is_tame(table: &Table, empty: Option<u32>, part: &[u32]) -> bool
     requires state { slice_index part.now 0 < table.now.states }
     ensures { IsTrue result ↔ IsTame table.now part.now }
 {
-    let _valid = table.states();
+    table.is_automaton();
     let state = part[0];
     match loop_letter(table, state) {
         Some(letter) => is_single(table, empty, state, letter),
@@ -156,7 +153,7 @@ pub fn is_finite<P: Codes>(alloc: Global, pass: &P, a: Handle) -> Result<bool, N
     ensures { IfOk result (λ yes. IsTrue yes ↔ IsBounded a.tracks (SetOfHandle (P.lists pass.now) a)) }
 {
     let (table, _start) = expand(alloc, pass, a)?;
-    let _valid = table.states();
+    table.is_automaton();
     let parts = components(alloc, &table)?;
     Ok(are_tame(&table, empty_state(&table), parts.as_slice()))
 }

@@ -1,185 +1,183 @@
 // Whether a set is included in another.
-ghost use Rattle.std.specs.Prelude.{◌≡◌, ℕ, ◌<◌, ◌≤◌, ◌^◌, ◌↔◌, length, slice_index, IsTrue, IfOk, IfErr, OnOk};
-ghost use Rattle.pt_sets.specs.Sets.{SameSet};
-ghost use Rattle.pt_sets.specs.Automata.{next_of, SetOfState, IsReduced};
+ghost use Rattle.std.specs.Prelude.{◌≡◌, ℕ, ◌+◌, ◌<◌, ◌≤◌, ◌^◌, ◌↔◌, Some, slice_get, IsTrue, IfOk, IfErr, OnOk};
+ghost use Rattle.std.specs.List.{AllByRecursion};
+ghost use Rattle.indexmap.specs.IndexSet.{index_set_len};
 ghost use Rattle.pt_sets.specs.Costs.{SamePair, CostWithin};
+ghost use Rattle.pt_sets.specs.Numbering.{Adds};
 ghost use Rattle.pt_handles.specs.Handles.{IsKnown, SetOfHandle};
 ghost use Rattle.pt_handles.specs.Refusing.{StatesOnlyAbove};
 ghost use Rattle.pt_query.specs.Queries.{IsSubset};
-ghost use Rattle.pt_query.specs.Walks.{HasWalked};
-ghost use Rattle.pt_query.specs.Partners.{ArePartners, AgreesAt, numbers_below};
+ghost use Rattle.pt_query.specs.Pairs.{ArePairs, HasNoRoom, AreTooMany, IsIncluded};
+ghost use Rattle.pt_query.specs.declared.inclusion.Pair.{Pair as PairValue};
 
 use crate::digits::letters;
-use crate::walking::{Walk, walk_from};
+use indexmap::IndexSet;
 use pt_handles::{Handle, TableFault, expand};
-use pt_product::{Op, combine_table};
 use pt_store::Codes;
-use pt_tables::{NoMemory, Table};
-use std::alloc::{AllocError, Global};
+use pt_tables::Table;
+use std::alloc::Global;
+use std::hash::Hash;
 
-/// The state that follows the partner of the parent of a place.
-fn following(other: &Table, walk: &Walk, found: &[u32], place: usize) -> u32
-    requires parent { place < length walk.now.parents.items }
-    requires letter { place < length walk.now.letters.items }
-    requires found { slice_index walk.now.parents.items place < length found.now }
-    requires state { slice_index found.now (slice_index walk.now.parents.items place) < other.now.states }
-    requires is_letter { slice_index walk.now.letters.items place < 2 ^ other.now.tracks }
-    ensures { result ≡ next_of other.now (slice_index found.now (slice_index walk.now.parents.items place)) (slice_index walk.now.letters.items place) }
-{
-    other.next(found[walk.parents[place] as usize], walk.letters[place])
+/// A state of each of two tables.
+#[derive(Clone, Copy, Debug, PartialEq, Eq, Hash)]
+pub(crate) struct Pair {
+    pub(crate) first: u32,
+    pub(crate) second: u32,
 }
 
-/// For each place of a search the state of another table to which the same letters lead.
-fn partners(alloc: Global, other: &Table, start: u32, walk: &Walk) -> Result<Vec<u32>, AllocError>
-    requires start { start < other.now.states }
-    requires parents { length walk.now.parents.items ≡ length walk.now.states.items }
-    requires letters { length walk.now.letters.items ≡ length walk.now.states.items }
-    requires earlier { (j : ℕ) → 0 < j → j < length walk.now.states.items → slice_index walk.now.parents.items j < j }
-    requires letter { (j : ℕ) → 0 < j → j < length walk.now.states.items → slice_index walk.now.letters.items j < 2 ^ other.now.tracks }
-    ensures { IfOk result (λ found. ArePartners other.now start walk.now.parents.items walk.now.letters.items found.items (length walk.now.states.items)) }
+/// Adds a pair where it is not there, unless there are as many as the bound.
+fn add(pairs: &mut IndexSet<Pair>, pair: Pair, bound: u32) -> Result<(), TableFault>
+    requires { index_set_len pairs.old ≤ bound }
+    ensures adds { OnOk result (Adds pair pairs.old.keys pairs.new.keys) }
+    ensures found { OnOk result ((k : ℕ) × (slice_get pairs.new.keys k ≡ Some pair)) }
+    ensures room { OnOk result (index_set_len pairs.new ≤ bound) }
+    ensures full { IfErr result (HasNoRoom pairs.old.keys pair bound) }
 {
-    let _valid = other.states();
-    let mut found = Vec::new(alloc);
-    for place in 0..walk.states.len() {
-        let state = if place == 0 {
-            start
-        } else {
-            following(other, walk, found.as_slice(), place)
-        };
-        found.push(state)?;
+    if let Some(_) = pairs.get_index_of(&pair) {
+        return Ok(());
     }
-    Ok(found)
-}
-
-fn are_equal(a: bool, b: bool) -> bool
-    ensures { IsTrue result ↔ (a ≡ b) }
-{
-    a == b
-}
-
-/// Whether partners agree at a letter: their outputs are one, and the letter leads to partners.
-fn agree_at(
-    table: &Table,
-    other: &Table,
-    walk: &Walk,
-    partners: &[u32],
-    place: u32,
-    letter: u16,
-    _start: u32,
-) -> bool
-    requires walked { HasWalked table.now _start walk.now (length walk.now.states.items) 0 }
-    requires tracks { other.now.tracks ≡ table.now.tracks }
-    requires count { length partners.now ≡ length walk.now.states.items }
-    requires within { (j : ℕ) → j < length partners.now → slice_index partners.now j < other.now.states }
-    requires place { place < length walk.now.states.items }
-    requires letter { letter < 2 ^ table.now.tracks }
-    ensures { IsTrue result ↔ AgreesAt table.now other.now walk.now.states.items walk.now.places.items partners.now place letter }
-{
-    let _valid = table.states();
-    let state = walk.states[place as usize];
-    let partner = partners[place as usize];
-    if !are_equal(table.output(state, letter), other.output(partner, letter)) {
-        return false;
+    let place = pairs.len();
+    if place == bound as usize {
+        return Err(TableFault::States { bound });
     }
-    match walk.places[table.next(state, letter) as usize] {
-        Some(next) => partners[next as usize] == other.next(partner, letter),
+    pairs.insert(pair)?;
+    Ok(())
+}
+
+/// The pair at a place.
+fn pair_at(pairs: &IndexSet<Pair>, place: u32) -> Pair
+    requires { place < index_set_len pairs.now }
+    ensures { slice_get pairs.now.keys place ≡ Some result }
+{
+    match pairs.get_index(place as usize) {
+        Some(pair) => *pair,
         None => unreachable!(),
     }
 }
 
-/// Whether partners agree at all letters.
-fn agree(
-    table: &Table,
-    other: &Table,
-    walk: &Walk,
-    partners: &[u32],
+/// Adds the pair to which a letter leads from the pair at a place.
+fn meet(
+    first: &Table,
+    second: &Table,
+    pairs: &mut IndexSet<Pair>,
     place: u32,
-    _start: u32,
-) -> bool
-    requires walked { HasWalked table.now _start walk.now (length walk.now.states.items) 0 }
-    requires tracks { other.now.tracks ≡ table.now.tracks }
-    requires count { length partners.now ≡ length walk.now.states.items }
-    requires within { (j : ℕ) → j < length partners.now → slice_index partners.now j < other.now.states }
-    requires place { place < length walk.now.states.items }
-    ensures { IsTrue result ↔ ((l : ℕ) → l < 2 ^ table.now.tracks → AgreesAt table.now other.now walk.now.states.items walk.now.places.items partners.now place l) }
+    letter: u16,
+    bound: u32,
+) -> Result<(), TableFault>
+    ghost start: { PairValue }
+    requires tracks { second.now.tracks ≡ first.now.tracks }
+    requires place { place < index_set_len pairs.old }
+    requires letter { letter < 2 ^ first.now.tracks }
+    requires room { index_set_len pairs.old ≤ bound }
+    requires pairs { ArePairs first.now second.now start pairs.old.keys place letter }
+    ensures pairs { OnOk result (ArePairs first.now second.now start pairs.new.keys place (letter + 1)) }
+    ensures grows { OnOk result (index_set_len pairs.old ≤ index_set_len pairs.new) }
+    ensures room { OnOk result (index_set_len pairs.new ≤ bound) }
+    ensures above { IfErr result (AreTooMany first.now second.now start bound) }
 {
-    let _valid = table.states();
-    for letter in 0..letters(table.tracks()) {
-        if !agree_at(table, other, walk, partners, place, letter, _start) {
-            return false;
-        }
+    first.is_automaton();
+    second.is_automaton();
+    let pair = pair_at(pairs, place);
+    let next = Pair {
+        first: first.next(pair.first, letter),
+        second: second.next(pair.second, letter),
+    };
+    if let Err(fault) = add(pairs, next, bound) {
+        return Err(fault);
     }
-    true
+    Ok(())
 }
 
-/// Whether all partners agree.
-fn all_agree(table: &Table, other: &Table, walk: &Walk, partners: &[u32], _start: u32) -> bool
-    requires walked { HasWalked table.now _start walk.now (length walk.now.states.items) 0 }
-    requires few { length walk.now.states.items ≤ 65536 }
-    requires tracks { other.now.tracks ≡ table.now.tracks }
-    requires count { length partners.now ≡ length walk.now.states.items }
-    requires within { (j : ℕ) → j < length partners.now → slice_index partners.now j < other.now.states }
-    ensures { IsTrue result ↔ ((j l : ℕ) → j < length walk.now.states.items → l < 2 ^ table.now.tracks → AgreesAt table.now other.now walk.now.states.items walk.now.places.items partners.now j l) }
+/// Adds the pairs to which the letters lead from the pair at a place.
+fn meet_all(
+    first: &Table,
+    second: &Table,
+    pairs: &mut IndexSet<Pair>,
+    place: u32,
+    bound: u32,
+) -> Result<(), TableFault>
+    ghost start: { PairValue }
+    requires tracks { second.now.tracks ≡ first.now.tracks }
+    requires place { place < index_set_len pairs.old }
+    requires room { index_set_len pairs.old ≤ bound }
+    requires pairs { ArePairs first.now second.now start pairs.old.keys place 0 }
+    ensures pairs { OnOk result (ArePairs first.now second.now start pairs.new.keys (place + 1) 0) }
+    ensures grows { OnOk result (index_set_len pairs.old ≤ index_set_len pairs.new) }
+    ensures room { OnOk result (index_set_len pairs.new ≤ bound) }
+    ensures above { IfErr result (AreTooMany first.now second.now start bound) }
 {
-    for place in 0..walk.states.len() as u32 {
-        if !agree(table, other, walk, partners, place, _start) {
-            return false;
+    for letter in 0..letters(first.tracks()) {
+        if let Err(fault) = meet(first, second, pairs, place, letter, bound) {
+            return Err(fault);
         }
     }
-    true
+    Ok(())
 }
 
-/// Whether a state of a table has the set of a state of a reduced one: the search from the first state gives each state
-/// that it meets the state of the other table that the same letters lead to, and the sets are equal exactly where these
-/// agree. Linear in states times letters.
-fn have_one_set(
+/// The pairs to which the same letters lead from a pair, breadth first. Linear in pairs times letters.
+fn reached_pairs(
     alloc: Global,
-    table: &Table,
-    start: u32,
-    other: &Table,
-    other_start: u32,
-) -> Result<bool, AllocError>
-    requires tracks { other.now.tracks ≡ table.now.tracks }
-    requires start { start < table.now.states }
-    requires other_start { other_start < other.now.states }
-    requires reduced { IsReduced other.now }
-    ensures { IfOk result (λ yes. IsTrue yes ↔ SameSet table.now.tracks (SetOfState table.now start) (SetOfState other.now other_start)) }
+    first: &Table,
+    second: &Table,
+    start: Pair,
+    bound: u32,
+) -> Result<IndexSet<Pair>, TableFault>
+    requires tracks { second.now.tracks ≡ first.now.tracks }
+    requires in_first { start.first < first.now.states }
+    requires in_second { start.second < second.now.states }
+    requires some { 0 < bound }
+    requires few { bound ≤ 65536 }
+    ensures pairs { IfOk result (λ pairs. ArePairs first.now second.now start pairs.keys (index_set_len pairs) 0) }
+    ensures room { IfOk result (λ pairs. index_set_len pairs ≤ bound) }
+    ensures above { IfErr result (AreTooMany first.now second.now start bound) }
 {
-    let _valid = table.states();
-    let _also = other.states();
-    let walk = walk_from(alloc, table, start)?;
-    let found = partners(alloc, other, other_start, &walk)?;
-    Ok(all_agree(table, other, &walk, found.as_slice(), start))
-}
-
-/// Whether state 0 of a table has the set of a handle.
-fn has_set_of<P: Codes>(alloc: Global, pass: &P, table: &Table, a: Handle) -> Result<bool, NoMemory>
-    requires known { IsKnown P.home (P.lists pass.now) a }
-    requires tracks { table.now.tracks ≡ a.tracks }
-    ensures { IfOk result (λ yes. IsTrue yes ↔ SameSet a.tracks (SetOfState table.now 0) (SetOfHandle (P.lists pass.now) a)) }
-{
-    let _valid = table.states();
-    let (other, start) = expand(alloc, pass, a)?;
-    let yes = have_one_set(alloc, table, 0, &other, start)?;
-    Ok(yes)
-}
-
-/// The map by which each of so many tracks is itself.
-fn own_tracks(alloc: Global, tracks: u32) -> Result<Vec<u8>, AllocError>
-    requires { tracks ≤ 10 }
-    ensures { IfOk result (λ map. map.items ≡ numbers_below tracks) }
-{
-    let mut map = Vec::new(alloc);
-    for track in 0..tracks {
-        map.push(track as u8)?;
+    let mut pairs = IndexSet::new(alloc);
+    pairs.insert(start)?;
+    let mut place = 0u32;
+    while (place as usize) < pairs.len() {
+        if let Err(fault) = meet_all(first, second, &mut pairs, place, bound) {
+            return Err(fault);
+        }
+        place += 1;
     }
-    Ok(map)
+    Ok(pairs)
 }
 
-/// Whether each member of the first set is one of the second, that is, whether the union of both is the second.
+/// Whether the first state of a pair has an output only where the second has.
+fn is_included(first: &Table, second: &Table, pair: Pair) -> bool
+    requires tracks { second.now.tracks ≡ first.now.tracks }
+    requires in_first { pair.first < first.now.states }
+    requires in_second { pair.second < second.now.states }
+    ensures { IsTrue result ↔ IsIncluded first.now second.now pair }
+{
+    for sign in 0..letters(first.tracks()) {
+        if first.output(pair.first, sign) && !second.output(pair.second, sign) {
+            return false;
+        }
+    }
+    true
+}
+
+/// Whether that is so of all pairs.
+fn are_included(first: &Table, second: &Table, pairs: &IndexSet<Pair>) -> bool
+    requires tracks { second.now.tracks ≡ first.now.tracks }
+    requires few { index_set_len pairs.now ≤ 65536 }
+    requires within { AllByRecursion (λ p. (p.first < first.now.states) × (p.second < second.now.states)) pairs.now.keys }
+    ensures { IsTrue result ↔ ((j : ℕ) (p : PairValue) → slice_get pairs.now.keys j ≡ Some p → IsIncluded first.now second.now p) }
+{
+    for place in 0..pairs.len() as u32 {
+        if !is_included(first, second, pair_at(pairs, place)) {
+            return false;
+        }
+    }
+    true
+}
+
+/// Whether each member of the first set is one of the second.
 ///
-/// `States` exactly where there are more pairs of residuals of the two sets than the bound: the union is a table of these
-/// pairs (`combine_table`). Whether it has the second set is one search through it, linear in pairs times letters.
+/// `States` exactly where there are more pairs of residuals of the two sets than the bound. A search over pairs of states of
+/// the two expanded tables, which is over once all pairs are met; the set is included exactly where in each pair the first
+/// state has an output only where the second has. Linear in pairs times letters, and the time of `expand` for each set.
 pub fn is_subset<P: Codes>(
     alloc: Global,
     pass: &P,
@@ -196,15 +194,17 @@ pub fn is_subset<P: Codes>(
     ensures within { OnOk result (CostWithin (SamePair a.tracks (SetOfHandle (P.lists pass.now) a) (SetOfHandle (P.lists pass.now) b)) a.tracks bound) }
     ensures above { IfErr result (StatesOnlyAbove (SamePair a.tracks (SetOfHandle (P.lists pass.now) a) (SetOfHandle (P.lists pass.now) b)) a.tracks bound) }
 {
-    let Ok(own) = own_tracks(alloc, a.tracks) else {
-        return Err(TableFault::NoMemory);
+    let (first, start) = expand(alloc, pass, a)?;
+    let (second, other) = expand(alloc, pass, b)?;
+    first.is_automaton();
+    second.is_automaton();
+    let from = Pair {
+        first: start,
+        second: other,
     };
-    let map = own.as_slice();
-    match combine_table(alloc, pass, Op::Or, a, map, b, map, a.tracks, bound) {
-        Ok(union) => match has_set_of(alloc, pass, &union, b) {
-            Ok(yes) => Ok(yes),
-            Err(_) => Err(TableFault::NoMemory),
-        },
-        Err(fault) => Err(fault),
-    }
+    let pairs = match reached_pairs(alloc, &first, &second, from, bound) {
+        Ok(pairs) => pairs,
+        Err(fault) => return Err(fault),
+    };
+    Ok(are_included(&first, &second, &pairs))
 }

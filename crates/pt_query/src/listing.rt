@@ -10,10 +10,10 @@ ghost use Rattle.pt_query.specs.Fresh.{AreRows, words_of, values_of, AreShortWor
 use crate::fault::WitnessFault;
 use crate::ordered::{first_row, least_after, least_from, next_row};
 use crate::wide::wide_letters;
-use crate::witness::narrow_value;
+use crate::witness::short_value;
 use pt_handles::{Handle, expand};
 use pt_store::Codes;
-use pt_tables::Table;
+use pt_tables::{NoMemory, Table};
 use std::alloc::{AllocError, Global};
 
 /// A word with its letters in order, where the last one stood first.
@@ -98,7 +98,7 @@ fn push_row(alloc: Global, table: &Table, rows: &mut Vec<Vec<bool>>) -> Result<(
     let row = if count == 0 {
         first_row(alloc, table)?
     } else {
-        next_row(alloc, table, rows[count - 1].as_slice(), count as u32)?
+        next_row(alloc, table, rows[count - 1].as_slice())?
     };
     rows.push(row)?;
     Ok(())
@@ -135,20 +135,15 @@ fn first_words(
 }
 
 /// The vectors of words.
-fn vectors(alloc: Global, words: &[Vec<u16>], tracks: u32) -> Result<Vec<Vec<i128>>, WitnessFault>
+fn vectors(alloc: Global, words: &[Vec<u16>], tracks: u32) -> Result<Vec<Vec<i128>>, NoMemory>
     requires tracks { tracks ≤ 10 }
     requires words { AreShortWords tracks (words_of words.now) }
-    ensures value { IfOk result (λ zs. vectors_of zs.items ≡ values_of tracks (words_of words.now)) }
-    ensures err { IfErr result (λ fault. fault ≡ WitnessFault.NoMemory) }
+    ensures { IfOk result (λ zs. vectors_of zs.items ≡ values_of tracks (words_of words.now)) }
 {
     let mut found = Vec::new(alloc);
     for i in 0..words.len() {
-        let Ok(z) = narrow_value(alloc, words[i].as_slice(), tracks) else {
-            return Err(WitnessFault::NoMemory);
-        };
-        let Ok(()) = found.push(z) else {
-            return Err(WitnessFault::NoMemory);
-        };
+        let z = short_value(alloc, words[i].as_slice(), tracks)?;
+        found.push(z)?;
     }
     Ok(found)
 }
@@ -160,18 +155,15 @@ fn list_of(alloc: Global, table: &Table, start: u32, k: u32) -> Result<Vec<Vec<i
     ensures narrow { IfOk result (λ zs. AllByRecursion IsNarrow (vectors_of zs.items)) }
     ensures wide { IfErr result (IsListCause table.now.tracks (SetOfState table.now start) k) }
 {
-    let _valid = table.states();
-    let Ok(words) = first_words(alloc, table, start, k as usize) else {
-        return Err(WitnessFault::NoMemory);
-    };
+    let tracks = table.tracks();
+    let words = first_words(alloc, table, start, k as usize)?;
     if words.len() < k as usize {
-        match wide_letters(alloc, table, start) {
-            Ok(None) => {}
-            Ok(Some(letters)) => return Err(WitnessFault::Wide { letters }),
-            Err(_) => return Err(WitnessFault::NoMemory),
+        if let Some(letters) = wide_letters(alloc, table, start)? {
+            return Err(WitnessFault::Wide { letters });
         }
     }
-    vectors(alloc, words.as_slice(), table.tracks())
+    let members = vectors(alloc, words.as_slice(), tracks)?;
+    Ok(members)
 }
 
 /// The first `k` members in shortlex order, or all where there are fewer. `Wide` exactly where the shortest word of one
@@ -192,8 +184,6 @@ pub fn list<P: Codes>(
     ensures narrow { IfOk result (λ zs. AllByRecursion IsNarrow (vectors_of zs.items)) }
     ensures wide { IfErr result (IsListCause a.tracks (SetOfHandle (P.lists pass.now) a) k) }
 {
-    match expand(alloc, pass, a) {
-        Ok((table, start)) => list_of(alloc, &table, start, k),
-        Err(_) => Err(WitnessFault::NoMemory),
-    }
+    let (table, start) = expand(alloc, pass, a)?;
+    list_of(alloc, &table, start, k)
 }

@@ -26,7 +26,6 @@ fn leads_into(table: &Table, row: &[bool], state: u32) -> bool
     requires row { length row.now ≡ table.now.states }
     ensures { IsTrue result ↔ ((l : ℕ) × (l < 2 ^ table.now.tracks) × IsTrue (slice_index_or row.now (next_of table.now state l) false)) }
 {
-    let _valid = table.states();
     for letter in 0..letters(table.tracks()) {
         if row[table.next(state, letter) as usize] {
             return true;
@@ -36,15 +35,9 @@ fn leads_into(table: &Table, row: &[bool], state: u32) -> bool
 }
 
 /// Marks of the states with an accepted word of one letter more. Linear in states times letters.
-pub(crate) fn next_row(
-    alloc: Global,
-    table: &Table,
-    row: &[bool],
-    _letters: u32,
-) -> Result<Vec<bool>, AllocError>
-    requires some { 0 < _letters }
-    requires row { IsRow table.now _letters row.now }
-    ensures { IfOk result (λ next. IsRow table.now (_letters + 1) next.items) }
+pub(crate) fn next_row(alloc: Global, table: &Table, row: &[bool]) -> Result<Vec<bool>, AllocError>
+    requires { length row.now ≡ table.now.states }
+    ensures { IfOk result (λ next. (n : ℕ) → 0 < n → IsRow table.now n row.now → IsRow table.now (n + 1) next.items) }
 {
     let mut next = Vec::new(alloc);
     for state in 0..table.states() {
@@ -65,7 +58,6 @@ fn last_letter(
     ensures some { IfOk result (λ found. IfSome found (λ word. IsLeastFrom table.now before state 1 low (reverse word.items))) }
     ensures none { IfOk result (λ found. IfNone found (HasNoneFrom table.now before state 1 low)) }
 {
-    let _valid = table.states();
     for sign in low..letters(table.tracks()) {
         if table.output(state, sign) && is_other(before, sign) {
             return Ok(Some(one_letter(alloc, sign)?));
@@ -112,7 +104,6 @@ pub(crate) fn least_from(
     if count == 1 {
         return last_letter(alloc, table, before, state, low);
     }
-    let _valid = table.states();
     for letter in low..letters(table.tracks()) {
         let next = table.next(state, letter);
         if may_end(table, rows, next, count - 1) {
@@ -162,7 +153,7 @@ pub(crate) fn least_after(
     ensures some { IfOk result (λ found. IfSome found (λ word. IsLeastAfter table.now before state bound.now (reverse word.items))) }
     ensures none { IfOk result (λ found. IfNone found (HasNoneAfter table.now before state bound.now)) }
 {
-    let _valid = table.states();
+    table.is_automaton();
     let letter = bound[0];
     if bound.len() > 1 {
         let next = table.next(state, letter);

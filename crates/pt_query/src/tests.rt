@@ -36,7 +36,7 @@ fn table_of(alloc: Global, ends: &[u32], outputs: &[(u32, u16)]) -> Result<Table
         }
         builder.output(*state, *sign, true);
     }
-    let table = builder.finish()?;
+    let table = builder.finish(alloc)?;
     if table.states() == 0 || table.tracks() != 1 {
         return Err("table")?;
     }
@@ -89,7 +89,7 @@ struct Told {
 }
 
 fn ask<R: Threads + Sync>(rt: &R, alloc: Global, table: &Table) -> Result<Told, Fail> {
-    let _valid = table.states();
+    table.is_automaton();
     let (store, mut pass) = LocalStore::new(alloc, 1, 1000, OneShard)?;
     let set = adopt(rt, alloc, &store, &mut pass, table, 0)?;
     let least = match least_member(alloc, &pass, set) {
@@ -199,7 +199,7 @@ fn lists_small<R: Threads + Sync>(
     table: &Table,
     k: u32,
 ) -> Result<bool, Fail> {
-    let _valid = table.states();
+    table.is_automaton();
     if k > 1000 {
         return Err("members")?;
     }
@@ -219,6 +219,30 @@ fn lists_small<R: Threads + Sync>(
     Ok(members.len() == k as usize || next_small(table, last).is_none())
 }
 
+/// Whether the first k members, or all, are these numbers.
+fn lists_numbers<R: Threads + Sync>(
+    rt: &R,
+    alloc: Global,
+    table: &Table,
+    k: u32,
+    numbers: &[i128],
+) -> Result<bool, Fail> {
+    table.is_automaton();
+    if k > 1000 {
+        return Err("members")?;
+    }
+    let (store, mut pass) = LocalStore::new(alloc, 1, 1000, OneShard)?;
+    let set = adopt(rt, alloc, &store, &mut pass, table, 0)?;
+    let Ok(members) = list(alloc, &pass, set, k) else {
+        return Err("list")?;
+    };
+    let are_equal = members
+        .iter()
+        .zip(numbers)
+        .all(|(z, x)| z.first().copied() == Some(*x));
+    Ok(members.len() == numbers.len() && are_equal)
+}
+
 /// How many members are listed, or how many letters the first wide one has.
 fn listed<R: Threads + Sync>(
     rt: &R,
@@ -226,7 +250,7 @@ fn listed<R: Threads + Sync>(
     table: &Table,
     k: u32,
 ) -> Result<Result<usize, u32>, Fail> {
-    let _valid = table.states();
+    table.is_automaton();
     if k > 1000 {
         return Err("members")?;
     }
@@ -307,6 +331,8 @@ fn small_sets(rt: HostRuntime) -> Result<(), Fail> {
     ] {
         assert!(rt; lists_small(&rt, alloc, table, k)?);
     }
+    assert!(rt; lists_numbers(&rt, alloc, &below_four, 2, &[0, 1])?);
+    assert!(rt; lists_numbers(&rt, alloc, &below_four, 9, &[0, 1, 2, 3])?);
     let two = power_table(alloc, 132, true)?;
     for (table, k, wanted) in [
         (&wide, 0, Ok(0)),

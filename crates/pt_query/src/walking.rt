@@ -59,20 +59,15 @@ fn first_walk(alloc: Global, table: &Table, start: u32) -> Result<Walk, AllocErr
 }
 
 /// Follows one letter from the state at a place.
-fn follow(
-    walk: &mut Walk,
-    table: &Table,
-    _start: u32,
-    place: u32,
-    letter: u16,
-) -> Result<(), AllocError>
+fn follow(walk: &mut Walk, table: &Table, place: u32, letter: u16) -> Result<(), AllocError>
+    ghost start: { ℕ }
     requires place { place < length walk.old.states.items }
     requires letter { letter < 2 ^ table.now.tracks }
-    requires walked { HasWalked table.now _start walk.old place letter }
-    ensures walked { OnOk result (HasWalked table.now _start walk.new place (letter + 1)) }
+    requires walked { HasWalked table.now start walk.old place letter }
+    ensures walked { OnOk result (HasWalked table.now start walk.new place (letter + 1)) }
     ensures grows { OnOk result (length walk.old.states.items ≤ length walk.new.states.items) }
 {
-    let _valid = table.states();
+    table.is_automaton();
     let next = table.next(walk.states[place as usize], letter);
     if walk.places[next as usize].is_some() {
         return Ok(());
@@ -82,15 +77,15 @@ fn follow(
 }
 
 /// Follows all letters from the state at a place.
-fn follow_all(walk: &mut Walk, table: &Table, _start: u32, place: u32) -> Result<(), AllocError>
+fn follow_all(walk: &mut Walk, table: &Table, place: u32) -> Result<(), AllocError>
+    ghost start: { ℕ }
     requires place { place < length walk.old.states.items }
-    requires walked { HasWalked table.now _start walk.old place 0 }
-    ensures walked { OnOk result (HasWalked table.now _start walk.new (place + 1) 0) }
+    requires walked { HasWalked table.now start walk.old place 0 }
+    ensures walked { OnOk result (HasWalked table.now start walk.new (place + 1) 0) }
     ensures grows { OnOk result (length walk.old.states.items ≤ length walk.new.states.items) }
 {
-    let _valid = table.states();
     for letter in 0..letters(table.tracks()) {
-        follow(walk, table, _start, place, letter)?;
+        follow(walk, table, place, letter)?;
     }
     Ok(())
 }
@@ -101,11 +96,11 @@ pub(crate) fn walk_from(alloc: Global, table: &Table, start: u32) -> Result<Walk
     requires { start < table.now.states }
     ensures { IfOk result (λ walk. HasWalked table.now start walk (length walk.states.items) 0) }
 {
-    let _valid = table.states();
+    table.is_automaton();
     let mut walk = first_walk(alloc, table, start)?;
     let mut place = 0u32;
     while (place as usize) < walk.states.len() {
-        follow_all(&mut walk, table, start, place)?;
+        follow_all(&mut walk, table, place)?;
         place += 1;
     }
     Ok(walk)

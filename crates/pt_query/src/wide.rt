@@ -1,5 +1,5 @@
 // The least number of letters, more than 128, of a member's shortest word.
-ghost use Rattle.std.specs.Prelude.{◌≡◌, ◌≢◌, ◌↔◌, ◌+◌, ◌^◌, ◌<◌, ◌≤◌, ◌++◌, [], ◌∷◌, ℕ, None, Some, false, length, slice_set, slice_index, slice_index_or, IsTrue, IfOk, IfSome, IfNone, OnOk};
+ghost use Rattle.std.specs.Prelude.{◌≡◌, ◌≢◌, ◌↔◌, ◌+◌, ◌^◌, ◌<◌, ◌≤◌, ◌++◌, [], ◌∷◌, ℕ, List, Bool, None, Some, false, length, slice_set, slice_index, slice_index_or, IsTrue, IfOk, IfSome, IfNone, OnOk};
 ghost use Rattle.pt_sets.specs.Automata.{output_of};
 ghost use Rattle.pt_query.specs.Fresh.{IsLeastWide, HasNoWide};
 ghost use Rattle.pt_query.specs.Spreads.{IsMarked, IsLevel, IsImageTo, MarksSuccessors, IsReachedFrom, IsSpread, HasSpread, IsFinal, IsLeastDepth, HasNoFinal};
@@ -23,7 +23,6 @@ fn mark_successors(table: &Table, marks: &mut Vec<bool>, state: u32)
     requires count { length marks.old.items ≡ table.now.states }
     ensures { MarksSuccessors table.now state (2 ^ table.now.tracks) marks.old.items marks.new.items }
 {
-    let _valid = table.states();
     for letter in 0..letters(table.tracks()) {
         marks[table.next(state, letter) as usize] = true;
     }
@@ -44,7 +43,6 @@ fn image(alloc: Global, table: &Table, row: &[bool]) -> Result<Vec<bool>, AllocE
     requires { length row.now ≡ table.now.states }
     ensures { IfOk result (λ next. IsImageTo table.now row.now table.now.states next.items) }
 {
-    let _valid = table.states();
     let mut next = no_marks(alloc, table.states())?;
     for state in 0..table.states() {
         if row[state as usize] {
@@ -87,7 +85,6 @@ fn first_spread(alloc: Global, table: &Table, row: &[bool]) -> Result<Spread, Al
     requires { length row.now ≡ table.now.states }
     ensures { IfOk result (λ spread. HasSpread table.now row.now table.now.states spread 0 0) }
 {
-    let _valid = table.states();
     let mut spread = Spread {
         states: Vec::new(alloc),
         depths: Vec::new(alloc),
@@ -102,21 +99,15 @@ fn first_spread(alloc: Global, table: &Table, row: &[bool]) -> Result<Spread, Al
 }
 
 /// Follows one letter from the state at a place.
-fn follow(
-    spread: &mut Spread,
-    table: &Table,
-    _row: &[bool],
-    place: u32,
-    letter: u16,
-) -> Result<(), AllocError>
+fn follow(spread: &mut Spread, table: &Table, place: u32, letter: u16) -> Result<(), AllocError>
     requires place { place < length spread.old.states.items }
     requires letter { letter < 2 ^ table.now.tracks }
-    requires spread { HasSpread table.now _row.now table.now.states spread.old place letter }
-    ensures spread { OnOk result (HasSpread table.now _row.now table.now.states spread.new place (letter + 1)) }
+    requires spread { (row : List Bool) × HasSpread table.now row table.now.states spread.old place letter }
+    ensures spread { OnOk result ((row : List Bool) → HasSpread table.now row table.now.states spread.old place letter → HasSpread table.now row table.now.states spread.new place (letter + 1)) }
     ensures grows { OnOk result (length spread.old.states.items ≤ length spread.new.states.items) }
     ensures kept { OnOk result ((j : ℕ) → j < length spread.old.states.items → slice_index spread.new.states.items j ≡ slice_index spread.old.states.items j) }
 {
-    let _valid = table.states();
+    table.is_automaton();
     let next = table.next(spread.states[place as usize], letter);
     if spread.places[next as usize].is_some() {
         return Ok(());
@@ -127,21 +118,15 @@ fn follow(
 }
 
 /// Follows all letters from the state at a place.
-fn follow_all(
-    spread: &mut Spread,
-    table: &Table,
-    _row: &[bool],
-    place: u32,
-) -> Result<(), AllocError>
+fn follow_all(spread: &mut Spread, table: &Table, place: u32) -> Result<(), AllocError>
     requires place { place < length spread.old.states.items }
-    requires spread { HasSpread table.now _row.now table.now.states spread.old place 0 }
-    ensures spread { OnOk result (HasSpread table.now _row.now table.now.states spread.new (place + 1) 0) }
+    requires spread { (row : List Bool) × HasSpread table.now row table.now.states spread.old place 0 }
+    ensures spread { OnOk result ((row : List Bool) → HasSpread table.now row table.now.states spread.old place 0 → HasSpread table.now row table.now.states spread.new (place + 1) 0) }
     ensures grows { OnOk result (length spread.old.states.items ≤ length spread.new.states.items) }
     ensures kept { OnOk result ((j : ℕ) → j < length spread.old.states.items → slice_index spread.new.states.items j ≡ slice_index spread.old.states.items j) }
 {
-    let _valid = table.states();
     for letter in 0..letters(table.tracks()) {
-        follow(spread, table, _row, place, letter)?;
+        follow(spread, table, place, letter)?;
     }
     Ok(())
 }
@@ -151,7 +136,6 @@ fn has_other_output(table: &Table, state: u32, letter: u16) -> bool
     requires { state < table.now.states }
     ensures { IsTrue result ↔ ((s : ℕ) × (s < 2 ^ table.now.tracks) × (letter ≢ s) × IsTrue (output_of table.now state s)) }
 {
-    let _valid = table.states();
     for sign in 0..letters(table.tracks()) {
         if letter != sign && table.output(state, sign) {
             return true;
@@ -165,7 +149,6 @@ fn is_final(table: &Table, state: u32) -> bool
     requires { state < table.now.states }
     ensures { IsTrue result ↔ IsFinal table.now state }
 {
-    let _valid = table.states();
     for letter in 0..letters(table.tracks()) {
         if has_other_output(table, table.next(state, letter), letter) {
             return true;
@@ -181,14 +164,14 @@ fn least_depth(alloc: Global, table: &Table, row: &[bool]) -> Result<Option<u32>
     ensures none { IfOk result (λ found. IfNone found (HasNoFinal table.now row.now)) }
     ensures few { IfOk result (λ found. IfSome found (λ d. d ≤ 65536)) }
 {
-    let _valid = table.states();
+    table.is_automaton();
     let mut spread = first_spread(alloc, table, row)?;
     let mut place = 0u32;
     while (place as usize) < spread.states.len() {
         if is_final(table, spread.states[place as usize]) {
             return Ok(Some(spread.depths[place as usize]));
         }
-        follow_all(&mut spread, table, row, place)?;
+        follow_all(&mut spread, table, place)?;
         place += 1;
     }
     Ok(None)
@@ -206,7 +189,7 @@ pub(crate) fn wide_letters(
     ensures some { IfOk result (λ found. IfSome found (IsLeastWide table.now start)) }
     ensures none { IfOk result (λ found. IfNone found (HasNoWide table.now start)) }
 {
-    let _valid = table.states();
+    table.is_automaton();
     let row = level(alloc, table, start)?;
     match least_depth(alloc, table, row.as_slice())? {
         Some(depth) => Ok(Some(depth + 129)),

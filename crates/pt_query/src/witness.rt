@@ -14,7 +14,7 @@ use crate::walking::{Walk, walk_from};
 use pt_digits::{DigitFault, decode};
 use pt_handles::{Handle, expand};
 use pt_store::Codes;
-use pt_tables::Table;
+use pt_tables::{NoMemory, Table};
 use std::alloc::{AllocError, Global};
 
 /// The least sign at which a state has an output.
@@ -25,7 +25,6 @@ pub(crate) fn first_sign(table: &Table, state: u32) -> Option<u16>
     ensures least { IfSome result (λ s. (r : ℕ) → r < s → ¬ IsTrue (output_of table.now state r)) }
     ensures none { IfNone result ((r : ℕ) → r < 2 ^ table.now.tracks → ¬ IsTrue (output_of table.now state r)) }
 {
-    let _valid = table.states();
     for sign in 0..letters(table.tracks()) {
         if table.output(state, sign) {
             return Some(sign);
@@ -68,6 +67,20 @@ fn word_of(alloc: Global, walk: &Walk, place: u32, sign: u16) -> Result<Vec<u16>
     Ok(word)
 }
 
+/// The vector of a word of at most 128 letters.
+pub(crate) fn short_value(alloc: Global, word: &[u16], tracks: u32) -> Result<Vec<i128>, NoMemory>
+    requires tracks { tracks ≤ 10 }
+    requires word { IsWord tracks word.now }
+    requires few { length word.now ≤ 128 }
+    ensures { IfOk result (λ z. z.items ≡ value tracks word.now) }
+{
+    match decode(alloc, word, tracks) {
+        Ok(z) => Ok(z),
+        Err(DigitFault::Wide) => unreachable!(),
+        Err(DigitFault::NoMemory) => Err(NoMemory),
+    }
+}
+
 /// The vector of a word, if it has at most 128 letters.
 pub(crate) fn narrow_value(
     alloc: Global,
@@ -86,11 +99,8 @@ pub(crate) fn narrow_value(
             letters: word.len() as u32,
         });
     }
-    match decode(alloc, word, tracks) {
-        Ok(z) => Ok(z),
-        Err(DigitFault::Wide) => unreachable!(),
-        Err(DigitFault::NoMemory) => Err(WitnessFault::NoMemory),
-    }
+    let z = short_value(alloc, word, tracks)?;
+    Ok(z)
 }
 
 /// The least member of the set of a state.
@@ -101,17 +111,13 @@ fn least_of(alloc: Global, table: &Table, start: u32) -> Result<Option<Vec<i128>
     ensures narrow { IfOk result (λ found. IfSome found (λ z. IsNarrow z.items)) }
     ensures wide { IfErr result (IsWideCause table.now.tracks (SetOfState table.now start)) }
 {
-    let _valid = table.states();
-    let Ok(walk) = walk_from(alloc, table, start) else {
-        return Err(WitnessFault::NoMemory);
-    };
+    let tracks = table.tracks();
+    let walk = walk_from(alloc, table, start)?;
     let Some((place, sign)) = first_output(table, &walk) else {
         return Ok(None);
     };
-    let Ok(word) = word_of(alloc, &walk, place, sign) else {
-        return Err(WitnessFault::NoMemory);
-    };
-    match narrow_value(alloc, word.as_slice(), table.tracks()) {
+    let word = word_of(alloc, &walk, place, sign)?;
+    match narrow_value(alloc, word.as_slice(), tracks) {
         Ok(z) => Ok(Some(z)),
         Err(fault) => Err(fault),
     }
@@ -134,8 +140,6 @@ pub fn least_member<P: Codes>(
     ensures narrow { IfOk result (λ found. IfSome found (λ z. IsNarrow z.items)) }
     ensures wide { IfErr result (IsWideCause a.tracks (SetOfHandle (P.lists pass.now) a)) }
 {
-    match expand(alloc, pass, a) {
-        Ok((table, start)) => least_of(alloc, &table, start),
-        Err(_) => Err(WitnessFault::NoMemory),
-    }
+    let (table, start) = expand(alloc, pass, a)?;
+    least_of(alloc, &table, start)
 }

@@ -23,7 +23,7 @@ are_tame-requires-clause-states g c =
     let parts = c.in_ok-parts.parts.items in
     let a = c.in_ok-table.table in
     subst (λ (ps : List (Vec ℕ)). (i : ℕ) → i < length ps → slice_index (slice_index_or (lists_of ps) i []) 0 < a.states) (sym c.as_slice.ensures.value)
-    (λ i h. head-inside a c.states-valid.ensures.valid (lists_of parts) c.in_ok-parts.ensures i (subst (λ (n : ℕ). i < n) (sym (length-lists parts)) h))
+    (λ i h. head-inside a c.is_automaton.ensures (lists_of parts) c.in_ok-parts.ensures i (subst (λ (n : ℕ). i < n) (sym (length-lists parts)) h))
 
 pub returns : goal.returns
 returns g c =
@@ -32,7 +32,7 @@ returns g c =
     let s = c.in_ok-table._start in
     let X = SetOfHandle (g.P.Codes.lists c.args.pass.now) c.args.a in
     let t = c.args.a.tracks in
-    let valid = c.states-valid.ensures.valid in
+    let valid = c.is_automaton.ensures in
     let are = c.in_ok-parts.ensures in
     let e = subst (λ (n : ℕ). Expands n X a s) (sym c.in_ok-table.ensures.tracks) c.in_ok-table.ensures in
     let tells = c.are_tame.ensures in

@@ -7,7 +7,7 @@ use Rattle.pt_query.proofs.finiteness.is_off.Goals as goal
 
 pub returns-then-output : goal.returns-then-output
 returns-then-output c =
-    let shown = state-sign c.args.table.now c.states-valid.ensures.valid c.args.state c.args.letter c.requires.state c.requires.letter in
+    let shown = state-sign c.args.table.now c.is_automaton.ensures c.args.state c.args.letter c.requires.state c.requires.letter in
     (λ h. absurd (cc), λ off. absurd (off.0 (shown.1 (sym c.output.ensures ∙ c.if-output.true))))
 
 pub returns-in-Some : goal.returns-in-Some
@@ -16,7 +16,7 @@ returns-in-Some c =
     let q = c.args.state in
     let l = c.args.letter in
     let e = c.in-Some.none in
-    let valid = c.states-valid.ensures.valid in
+    let valid = c.is_automaton.ensures in
     let shown = state-sign a valid q l c.requires.state c.requires.letter in
     let empty = subst (IsEmptyState a) c.in-Some.is c.requires.empty in (
       λ h. (
@@ -33,4 +33,4 @@ returns-in-None c =
     let q = c.args.state in
     let l = c.args.letter in
     let none = subst (IsEmptyState a) c.in-None.is c.requires.empty in
-    (λ h. absurd (cc), λ off. absurd (none (next_of a q l) (c.states-valid.ensures.valid.closed q l c.requires.state c.requires.letter) off.1))
+    (λ h. absurd (cc), λ off. absurd (none (next_of a q l) (c.is_automaton.ensures.closed q l c.requires.state c.requires.letter) off.1))

@@ -13,7 +13,7 @@ returns-then-not-is_off c =
       λ h. absurd (cc),
       λ single.
           let yes = c.is_off.ensures.1
-          (single-off c.args.table.now c.states-valid.ensures.valid c.args.state c.args.sign c.requires.state c.requires.sign c.requires.loop_ single c.loop-letter.letter (omega (arith, past, count)) c.if-letter-sign.true) in
+          (single-off c.args.table.now c.tracks.ensures.valid c.args.state c.args.sign c.requires.state c.requires.sign c.requires.loop_ single c.loop-letter.letter (omega (arith, past, count)) c.if-letter-sign.true) in
           absurd (cc),
     )
 
@@ -33,6 +33,6 @@ pub returns : goal.returns
 returns c =
     let past = c.loop-letter-test.false in
     let count = c.letters-letter-end.ensures.value ∙ ap (λ (n : ℕ). 2 ^ n) c.tracks.ensures.tracks in (
-      λ h. loop-single c.args.table.now c.states-valid.ensures.valid c.args.state c.args.sign c.requires.state c.requires.sign c.requires.loop_ (λ l is_l other. c.loop-letter.invariant l (omega (arith, past, count, is_l)) other),
+      λ h. loop-single c.args.table.now c.tracks.ensures.valid c.args.state c.args.sign c.requires.state c.requires.sign c.requires.loop_ (λ l is_l other. c.loop-letter.invariant l (omega (arith, past, count, is_l)) other),
       λ single. refl,
     )

@@ -8,7 +8,7 @@ use Rattle.pt_query.proofs.finiteness.is_still_at.Goals as goal
 
 pub returns-then-output : goal.returns-then-output
 returns-then-output c =
-    let shown = state-sign c.args.table.now c.states-valid.ensures.valid c.args.state c.args.letter c.requires.state c.requires.letter in
+    let shown = state-sign c.args.table.now c.is_automaton.ensures c.args.state c.args.letter c.requires.state c.requires.letter in
     (λ h. absurd (cc), λ still. absurd (still.0 (shown.1 (sym c.output.ensures ∙ c.if-output.true))))
 
 pub returns : goal.returns
@@ -16,7 +16,7 @@ returns c =
     let a = c.args.table.now in
     let q = c.args.state in
     let l = c.args.letter in
-    let valid = c.states-valid.ensures.valid in
+    let valid = c.is_automaton.ensures in
     let shown = state-sign a valid q l c.requires.state c.requires.letter in
     let X = SetOfState a q in
     let R = residual X l in

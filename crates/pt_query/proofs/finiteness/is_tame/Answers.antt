@@ -15,7 +15,7 @@ returns-in-None c =
     let none = c.in-None.ensures.none in (
       λ h. λ cycle. let one : n ≡ 1 = grind (arith, nat_tests) in absurd (elim cycle [ inl more ↦ omega (arith, one, more) | inr loops ↦ none loops ]),
       λ tame. elim (cases_lt 1 n) [
-        | inl more ↦ absurd (none (single-loops c.args.table.now c.states-valid.ensures.valid c.requires.reduced _ c.requires.state (tame (inl more))))
+        | inl more ↦ absurd (none (single-loops c.args.table.now c.is_automaton.ensures c.requires.reduced _ c.requires.state (tame (inl more))))
         | inr few ↦ let one : n ≡ 1 = omega (arith, few, c.requires.some) in eq-eqb n 1 one
       ],
     )

@@ -1,55 +1,39 @@
-use Rattle.std.proofs.Common.{◌↔◌, ℕ, List, sym, ◌∙◌, subst}
-use Rattle.std.specs.Prelude.{IsTrue}
-use Rattle.pt_sets.specs.Sets.{SameSet}
-use Rattle.pt_sets.specs.Automata.{SetOfState}
-use Rattle.pt_sets.specs.Restricting.{IsTrackMap, widened}
-use Rattle.pt_sets.specs.Costs.{SamePair, CostIs}
-use Rattle.pt_handles.specs.Handles.{SetOfHandle, state_of}
-use Rattle.pt_handles.specs.Refusing.{StatesOnlyAbove}
-use Rattle.pt_formula.specs.declared.Op.TheVariants.{Or}
-use Rattle.pt_product.specs.Operations.{combined}
-use Rattle.pt_query.proofs.Tracks.{known-tracks}
-use Rattle.pt_query.proofs.OwnTracks.{own-map}
-use Rattle.pt_query.proofs.Unions.{union-subset, refused-own, within-own}
+use Rattle.std.proofs.Common.{◌≡◌, ℕ, subst, sym, ◌∙◌, arith}
+use Rattle.pt_handles.specs.Handles.{SetOfHandle}
+use Rattle.pt_handles.specs.Expansion.{Expands}
+use Rattle.pt_query.specs.declared.inclusion.Pair.{Pair}
+use Rattle.pt_query.proofs.Included.{pairs-above, pairs-within, pairs-tell}
 use Rattle.pt_query.proofs.inclusion.is_subset.Goals as goal
 
-pub own_tracks-requires : goal.own_tracks-requires
-own_tracks-requires g c = known-tracks g.P.Codes.home (g.P.Codes.lists c.args.pass.now) c.args.a.tracks (state_of c.args.a) c.requires.known_a
+pub reached_pairs-requires-clause-tracks : goal.reached_pairs-requires-clause-tracks
+reached_pairs-requires-clause-tracks g c = c.in_ok-second.ensures.tracks ∙ c.requires.tracks ∙ sym c.in_ok-first.ensures.tracks
 
-pub combine_table-requires-clause-map_a : goal.combine_table-requires-clause-map_a
-combine_table-requires-clause-map_a g c = subst (IsTrackMap c.args.a.tracks c.args.a.tracks) (sym (c.as_slice-map.ensures.value ∙ c.in-Ok.ensures)) (own-map c.args.a.tracks)
+pub are_included-requires-clause-tracks : goal.are_included-requires-clause-tracks
+are_included-requires-clause-tracks g c = c.in_ok-second.ensures.tracks ∙ c.requires.tracks ∙ sym c.in_ok-first.ensures.tracks
 
-pub combine_table-requires-clause-map_b : goal.combine_table-requires-clause-map_b
-combine_table-requires-clause-map_b g c =
-    subst (λ (k : ℕ). IsTrackMap k c.args.a.tracks c.as_slice-map.result.now) (sym c.requires.tracks) (subst (IsTrackMap c.args.a.tracks c.args.a.tracks) (sym (c.as_slice-map.ensures.value ∙ c.in-Ok.ensures)) (own-map c.args.a.tracks))
-
-pub combine_table-requires-clause-tracks : goal.combine_table-requires-clause-tracks
-combine_table-requires-clause-tracks g c = known-tracks g.P.Codes.home (g.P.Codes.lists c.args.pass.now) c.args.a.tracks (state_of c.args.a) c.requires.known_a
-
-pub returns-in-Ok-has_set_of-clause-ok : goal.returns-in-Ok-has_set_of-clause-ok
-returns-in-Ok-has_set_of-clause-ok g c =
+pub returns-clause-ok : goal.returns-clause-ok
+returns-clause-ok g c =
     let t = c.args.a.tracks in
-    let X = SetOfHandle (g.P.Codes.lists c.args.pass.now) c.args.a in
-    let Y = SetOfHandle (g.P.Codes.lists c.args.pass.now) c.args.b in
-    let T = SetOfState c.in-Ok-combine_table.union 0 in
-    let own = c.as_slice-map.ensures.value ∙ c.in-Ok.ensures in
-    let union = subst (λ (m : List ℕ). SameSet t T (combined Or (widened m X) (widened m Y))) own c.in-Ok-combine_table.ensures.set in
-    let tells : IsTrue c.in-Ok-has_set_of.yes ↔ SameSet t T Y = subst (λ (n : ℕ). IsTrue c.in-Ok-has_set_of.yes ↔ SameSet n T Y) c.requires.tracks c.in-Ok-has_set_of.ensures in
-    union-subset t X Y T c.in-Ok-has_set_of.yes union tells
+    let lists = g.P.Codes.lists c.args.pass.now in
+    let Y = SetOfHandle lists c.args.b in
+    let start : Pair = record { first = c.in_ok-first.start; second = c.in_ok-second.other } in
+    let eb : Expands t Y c.in_ok-second.second c.in_ok-second.other = subst (λ (n : ℕ). Expands n Y c.in_ok-second.second c.in_ok-second.other) c.requires.tracks c.in_ok-second.ensures in
+    pairs-tell t (SetOfHandle lists c.args.a) Y c.in_ok-first.first c.in_ok-second.second start c.is_automaton.ensures c.is_automaton-2.ensures c.in_ok-first.ensures eb c.in-Ok.pairs.keys c.in-Ok.ensures.pairs c.are_included.result c.are_included.ensures
 
-pub returns-in-Ok-has_set_of-clause-within : goal.returns-in-Ok-has_set_of-clause-within
-returns-in-Ok-has_set_of-clause-within g c =
+pub returns-clause-within : goal.returns-clause-within
+returns-clause-within g c =
     let t = c.args.a.tracks in
-    let X = SetOfHandle (g.P.Codes.lists c.args.pass.now) c.args.a in
-    let Y = SetOfHandle (g.P.Codes.lists c.args.pass.now) c.args.b in
-    let n = c.in-Ok-combine_table.union.states in
-    let own = c.as_slice-map.ensures.value ∙ c.in-Ok.ensures in
-    within-own t X Y n c.args.bound c.in-Ok-combine_table.ensures.few (subst (λ (m : List ℕ). CostIs (SamePair t (widened m X) (widened m Y)) t n) own c.in-Ok-combine_table.ensures.cost)
+    let lists = g.P.Codes.lists c.args.pass.now in
+    let Y = SetOfHandle lists c.args.b in
+    let start : Pair = record { first = c.in_ok-first.start; second = c.in_ok-second.other } in
+    let eb : Expands t Y c.in_ok-second.second c.in_ok-second.other = subst (λ (n : ℕ). Expands n Y c.in_ok-second.second c.in_ok-second.other) c.requires.tracks c.in_ok-second.ensures in
+    pairs-within t (SetOfHandle lists c.args.a) Y c.in_ok-first.first c.in_ok-second.second start c.is_automaton.ensures c.is_automaton-2.ensures c.in_ok-first.ensures eb c.in-Ok.pairs.keys c.in-Ok.ensures.pairs c.args.bound c.in-Ok.ensures.room
 
-pub returns-clause-above : goal.returns-clause-above
-returns-clause-above g c =
+pub returns-in-Err-clause-above : goal.returns-in-Err-clause-above
+returns-in-Err-clause-above g c =
     let t = c.args.a.tracks in
-    let X = SetOfHandle (g.P.Codes.lists c.args.pass.now) c.args.a in
-    let Y = SetOfHandle (g.P.Codes.lists c.args.pass.now) c.args.b in
-    let own = c.as_slice-map.ensures.value ∙ c.in-Ok.ensures in
-    refused-own t X Y c.args.bound c.in-Err.fault (subst (λ (m : List ℕ). StatesOnlyAbove (SamePair t (widened m X) (widened m Y)) t c.args.bound c.in-Err.fault) own c.in-Err.ensures.above)
+    let lists = g.P.Codes.lists c.args.pass.now in
+    let Y = SetOfHandle lists c.args.b in
+    let start : Pair = record { first = c.in_ok-first.start; second = c.in_ok-second.other } in
+    let eb : Expands t Y c.in_ok-second.second c.in_ok-second.other = subst (λ (n : ℕ). Expands n Y c.in_ok-second.second c.in_ok-second.other) c.requires.tracks c.in_ok-second.ensures in
+    pairs-above t (SetOfHandle lists c.args.a) Y c.in_ok-first.first c.in_ok-second.second start c.is_automaton.ensures c.is_automaton-2.ensures c.in_ok-first.ensures eb c.args.bound c.in-Err.fault c.in-Err.ensures.above

@@ -7,16 +7,16 @@ use Rattle.pt_query.specs.Fresh.{words_of, values_of}
 use Rattle.pt_query.proofs.Listed.{words-at, short-at, vectors-push, values-take, length-words}
 use Rattle.pt_query.proofs.listing.vectors.Goals as goal
 
-pub narrow_value-requires-clause-word : goal.narrow_value-requires-clause-word
-narrow_value-requires-clause-word c =
+pub short_value-requires-clause-word : goal.short_value-requires-clause-word
+short_value-requires-clause-word c =
     let words = c.args.words.now in
     let i = c.loop-i.i in
     let inside : i < length words = search rules in
     let at : c.as_slice.result.now ≡ get_or (words_of words) i [] = c.as_slice.ensures.value ∙ ap (λ (v : Vec ℕ). v.items) c.index-words-i.is ∙ sym (words-at words i c.index-words-i.result inside) in
     subst (IsWord c.args.tracks) (sym at) (short-at c.args.tracks (words_of words) i c.requires.words (omega (arith, length-words words, inside))).0
 
-pub narrow_value-requires-clause-few : goal.narrow_value-requires-clause-few
-narrow_value-requires-clause-few c =
+pub short_value-requires-clause-few : goal.short_value-requires-clause-few
+short_value-requires-clause-few c =
     let words = c.args.words.now in
     let i = c.loop-i.i in
     let inside : i < length words = search rules in
@@ -33,15 +33,15 @@ loop-i-preserved c =
     let inside : i < length words = search rules in
     let at : c.as_slice.result.now ≡ get_or (words_of words) i [] = c.as_slice.ensures.value ∙ ap (λ (v : Vec ℕ). v.items) c.index-words-i.is ∙ sym (words-at words i c.index-words-i.result inside) in
     let old = c.loop-i.found.items in
-    let z : c.in-Ok.z.items ≡ value t (get_or (words_of words) i []) = c.in-Ok.ensures.value ∙ ap (value t) at in
-    ap vectors_of c.in-Ok-push.ensures.items
-    ∙ vectors-push old c.in-Ok.z
-    ∙ ap (λ (zs : List Vector). zs ++ c.in-Ok.z.items ∷ []) c.loop-i.invariant
+    let z : c.in_ok-z.z.items ≡ value t (get_or (words_of words) i []) = c.in_ok-z.ensures ∙ ap (value t) at in
+    ap vectors_of c.in_ok-push.ensures.items
+    ∙ vectors-push old c.in_ok-z.z
+    ∙ ap (λ (zs : List Vector). zs ++ c.in_ok-z.z.items ∷ []) c.loop-i.invariant
     ∙ ap (λ (y : Vector). values_of t (take i (words_of words)) ++ y ∷ []) z
     ∙ sym (values-take t i (words_of words) (omega (arith, length-words words, inside)))
 
-pub returns-clause-value : goal.returns-clause-value
-returns-clause-value c =
+pub returns : goal.returns
+returns c =
     let words = c.args.words.now in
     let past = c.loop-i-test.false in
     c.loop-i.invariant ∙ ap (values_of c.args.tracks) (take_all c.loop-i.i (words_of words) (let size = length-words words in let more : length words ≤ c.loop-i.i = search rules in omega (arith, size, more)))

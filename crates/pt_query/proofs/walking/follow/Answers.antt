@@ -18,7 +18,7 @@ none-of x None is h = sym is
 none-of x (Some j) is h = absurd (cc)
 
 pub returns-then-is_some-clause-walked : goal.returns-then-is_some-clause-walked
-returns-then-is_some-clause-walked c =
+returns-then-is_some-clause-walked g c =
     let w = c.args.walk.now in
     let a = c.args.table.now in
     let state : c.index.result.now ≡ slice_index w.states.items c.args.place = grind (arith, common_steps) in
@@ -26,17 +26,17 @@ returns-then-is_some-clause-walked c =
     let inside : c.next-next.result < length w.places.items = search rules in
     let read = c.index-2.ensures ∙ get_or_default w.places.items c.next-next.result c.index-2.result.now None inside in
     let (j, met) = some-of (slice_index_or w.places.items c.next-next.result None) c.index-2.result.now read (sym c.is_some.ensures ∙ c.if-is_some.true) in
-    walk-again a c.args._start w.states.items w.parents.items w.letters.items w.places.items c.args.place c.args.letter j c.requires.walked (ap (λ (q : ℕ). slice_index_or w.places.items q None) (sym next) ∙ met)
+    walk-again a g.start w.states.items w.parents.items w.letters.items w.places.items c.args.place c.args.letter j c.requires.1.1 (ap (λ (q : ℕ). slice_index_or w.places.items q None) (sym next) ∙ met)
 
 pub push_state-requires-clause-few : goal.push_state-requires-clause-few
-push_state-requires-clause-few c =
+push_state-requires-clause-few g c =
     let w = c.args.walk.now in
-    let short = walk-short c.args.table.now c.args._start w.states.items w.parents.items w.letters.items w.places.items c.args.place c.args.letter c.requires.walked in
-    let few = c.states-valid.ensures.valid.few_states in
+    let short = walk-short c.args.table.now g.start w.states.items w.parents.items w.letters.items w.places.items c.args.place c.args.letter c.requires.1.1 in
+    let few = c.is_automaton.ensures.few_states in
     omega (arith, short, few)
 
 pub returns-clause-walked : goal.returns-clause-walked
-returns-clause-walked c =
+returns-clause-walked g c =
     let w = c.args.walk.now in
     let n = c.push_state.new.walk in
     let a = c.args.table.now in
@@ -47,12 +47,12 @@ returns-clause-walked c =
     let inside : c.next-next.result < length w.places.items = search rules in
     let read = c.index-2.ensures ∙ get_or_default w.places.items c.next-next.result c.index-2.result.now None inside in
     let unmet = none-of (slice_index_or w.places.items c.next-next.result None) c.index-2.result.now read (sym c.is_some.ensures ∙ c.if-is_some.false) in
-    let step = walk-new a c.args._start w.states.items w.parents.items w.letters.items w.places.items i l c.requires.walked c.states-valid.ensures.valid c.requires.place c.requires.letter (ap (λ (q : ℕ). slice_index_or w.places.items q None) (sym next) ∙ unmet) in
+    let step = walk-new a g.start w.states.items w.parents.items w.letters.items w.places.items i l c.requires.1.1 c.is_automaton.ensures c.requires.0 c.requires.1.0 (ap (λ (q : ℕ). slice_index_or w.places.items q None) (sym next) ∙ unmet) in
     let e = c.in_ok-push_state.ensures in
     let q = next_of a (slice_index w.states.items i) l in
     let order : n.states.items ≡ w.states.items ++ q ∷ [] = e.states ∙ ap (λ (x : ℕ). w.states.items ++ x ∷ []) next in
     let places : n.places.items ≡ set w.places.items q (Some (length w.states.items)) = e.places ∙ ap (λ (x : ℕ). set w.places.items x (Some (length w.states.items))) next in
-    subst (λ (x : List ℕ). IsWalk a c.args._start x n.parents.items n.letters.items n.places.items i (l + 1)) (sym order)
-    (subst (λ (x : List ℕ). IsWalk a c.args._start (w.states.items ++ q ∷ []) x n.letters.items n.places.items i (l + 1)) (sym e.parents)
-    (subst (λ (x : List ℕ). IsWalk a c.args._start (w.states.items ++ q ∷ []) (w.parents.items ++ i ∷ []) x n.places.items i (l + 1)) (sym e.letters)
-    (subst (λ (x : List (Option ℕ)). IsWalk a c.args._start (w.states.items ++ q ∷ []) (w.parents.items ++ i ∷ []) (w.letters.items ++ l ∷ []) x i (l + 1)) (sym places) step)))
+    subst (λ (x : List ℕ). IsWalk a g.start x n.parents.items n.letters.items n.places.items i (l + 1)) (sym order)
+    (subst (λ (x : List ℕ). IsWalk a g.start (w.states.items ++ q ∷ []) x n.letters.items n.places.items i (l + 1)) (sym e.parents)
+    (subst (λ (x : List ℕ). IsWalk a g.start (w.states.items ++ q ∷ []) (w.parents.items ++ i ∷ []) x n.places.items i (l + 1)) (sym e.letters)
+    (subst (λ (x : List (Option ℕ)). IsWalk a g.start (w.states.items ++ q ∷ []) (w.parents.items ++ i ∷ []) (w.letters.items ++ l ∷ []) x i (l + 1)) (sym places) step)))

@@ -12,7 +12,7 @@ pub push_state-requires-clause-few : goal.push_state-requires-clause-few
 push_state-requires-clause-few c =
     let w = c.loop-state.spread in
     let short = spread-short c.args.table.now c.args.row.now c.loop-state.state w.states.items w.depths.items w.places.items 0 0 c.loop-state.invariant.spread in
-    let few = c.states-valid.ensures.valid.few_states in
+    let few = c.states.ensures.valid.few_states in
     omega (arith, short, few)
 
 pub loop-state-preserved : goal.loop-state-preserved

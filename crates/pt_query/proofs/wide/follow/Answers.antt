@@ -18,7 +18,7 @@ none-of x None is h = sym is
 none-of x (Some j) is h = absurd (cc)
 
 pub returns-then-is_some-clause-spread : goal.returns-then-is_some-clause-spread
-returns-then-is_some-clause-spread c =
+returns-then-is_some-clause-spread c row old =
     let w = c.args.spread.now in
     let a = c.args.table.now in
     let i = c.args.place in
@@ -27,33 +27,31 @@ returns-then-is_some-clause-spread c =
     let inside : c.next-next.result < length w.places.items = search rules in
     let read = c.index-2.ensures ∙ get_or_default w.places.items c.next-next.result c.index-2.result.now None inside in
     let (j, met) = some-of (slice_index_or w.places.items c.next-next.result None) c.index-2.result.now read (sym c.is_some.ensures ∙ c.if-is_some.true) in
-    spread-again a c.args._row.now a.states w.states.items w.depths.items w.places.items i c.args.letter j c.requires.place c.requires.spread (ap (λ (q : ℕ). slice_index_or w.places.items q None) (sym next) ∙ met)
+    spread-again a row a.states w.states.items w.depths.items w.places.items i c.args.letter j c.requires.place old (ap (λ (q : ℕ). slice_index_or w.places.items q None) (sym next) ∙ met)
 
 pub overflow_add-depth : goal.overflow_add-depth
 overflow_add-depth c =
     let w = c.args.spread.now in
     let depth : c.index-3.result.now ≡ slice_index w.depths.items c.args.place = grind (arith, common_steps) in
-    let small = c.requires.spread.small c.args.place c.requires.place in
-    let short = spread-short c.args.table.now c.args._row.now c.args.table.now.states w.states.items w.depths.items w.places.items c.args.place c.args.letter c.requires.spread in
-    let few = c.states-valid.ensures.valid.few_states in
+    let small = c.requires.spread.1.small c.args.place c.requires.place in
+    let short = spread-short c.args.table.now c.requires.spread.0 c.args.table.now.states w.states.items w.depths.items w.places.items c.args.place c.args.letter c.requires.spread.1 in
+    let few = c.is_automaton.ensures.few_states in
     omega (arith, depth, small, short, few, c.requires.place)
 
 pub push_state-requires-clause-few : goal.push_state-requires-clause-few
 push_state-requires-clause-few c =
     let w = c.args.spread.now in
-    let short = spread-short c.args.table.now c.args._row.now c.args.table.now.states w.states.items w.depths.items w.places.items c.args.place c.args.letter c.requires.spread in
-    let few = c.states-valid.ensures.valid.few_states in
+    let short = spread-short c.args.table.now c.requires.spread.0 c.args.table.now.states w.states.items w.depths.items w.places.items c.args.place c.args.letter c.requires.spread.1 in
+    let few = c.is_automaton.ensures.few_states in
     omega (arith, short, few)
 
 pub returns-clause-spread : goal.returns-clause-spread
-returns-clause-spread c =
+returns-clause-spread c row old =
     let w = c.args.spread.now in
     let n = c.push_state.new.spread in
     let a = c.args.table.now in
-    let row = c.args._row.now in
     let i = c.args.place in
     let l = c.args.letter in
-    let old = c.requires.spread in
     let state : c.index.result.now ≡ slice_index w.states.items i = grind (arith, common_steps) in
     let next : c.next-next.result ≡ next_of a (slice_index w.states.items i) l = c.next-next.ensures ∙ ap (λ (q : ℕ). next_of a q l) state in
     let inside : c.next-next.result < length w.places.items = search rules in
@@ -63,7 +61,7 @@ returns-clause-spread c =
     let d = slice_index w.depths.items i + 1 in
     let depth_is : c.index-3.result.now ≡ slice_index w.depths.items i = grind (arith, common_steps) in
     let depth : c.index-3.result.now + 1 ≡ d = ap (λ (m : ℕ). m + 1) depth_is in
-    let in_states = c.states-valid.ensures.valid.closed (slice_index w.states.items i) l (old.within i c.requires.place) c.requires.letter in
+    let in_states = c.is_automaton.ensures.closed (slice_index w.states.items i) l (old.within i c.requires.place) c.requires.letter in
     let small = old.small i c.requires.place in
     let step = spread-new a row a.states w.states.items w.depths.items w.places.items i l q d old in_states (ap (λ (x : ℕ). slice_index_or w.places.items x None) (sym next) ∙ unmet)
     (reached-next a row (slice_index w.depths.items i) (slice_index w.states.items i) l c.requires.letter (old.reached i c.requires.place)) (λ j h. old.near j h c.requires.place) (omega (arith, small, c.requires.place)) c.requires.place refl refl in

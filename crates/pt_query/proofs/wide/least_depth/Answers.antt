@@ -29,7 +29,7 @@ returns-then-is_final-clause-few c =
     let depth : c.index-then-is_final.result.now ≡ slice_index w.depths.items i = grind (arith, common_steps) in
     let small = c.loop-place.invariant.spread.small i inside in
     let short = spread-short c.args.table.now c.args.row.now c.args.table.now.states w.states.items w.depths.items w.places.items i 0 c.loop-place.invariant.spread in
-    let few = c.states-valid.ensures.valid.few_states in
+    let few = c.is_automaton.ensures.few_states in
     omega (arith, depth, small, short, few, inside)
 
 pub overflow_add-place : goal.overflow_add-place
@@ -37,7 +37,7 @@ overflow_add-place c =
     let w = c.loop-place.spread in
     let inside : c.loop-place.place < length w.states.items = search rules in
     let short = spread-short c.args.table.now c.args.row.now c.args.table.now.states w.states.items w.depths.items w.places.items c.loop-place.place 0 c.loop-place.invariant.spread in
-    let few = c.states-valid.ensures.valid.few_states in
+    let few = c.is_automaton.ensures.few_states in
     omega (arith, short, few, inside)
 
 pub loop-place-smaller : goal.loop-place-smaller
@@ -46,6 +46,9 @@ loop-place-smaller c =
     let inside : c.loop-place.place < length w.states.items = search rules in
     let short = spread-short c.args.table.now c.args.row.now c.args.table.now.states w.states.items w.depths.items w.places.items c.loop-place.place 0 c.loop-place.invariant.spread in
     omega (arith, short, inside)
+
+pub follow_all-requires-clause-spread : goal.follow_all-requires-clause-spread
+follow_all-requires-clause-spread c = (c.args.row.now, c.loop-place.invariant.spread)
 
 pub loop-place-preserved : goal.loop-place-preserved
 loop-place-preserved c =
@@ -57,7 +60,7 @@ loop-place-preserved c =
     let kept = c.in_ok-follow_all.ensures.kept in
     let state : c.index.result.now ≡ slice_index w.states.items i = grind (arith, common_steps) in
     record {
-      spread = c.in_ok-follow_all.ensures.spread;
+      spread = c.in_ok-follow_all.ensures.spread c.args.row.now c.loop-place.invariant.spread;
       before = omega (arith, inside, grows);
       earlier = λ j h final. elim (cases_eq j i) [
         | inl same ↦
