@@ -83,6 +83,12 @@ widened-values inner outer X Y same = record {
 abbrev pub WideningLaw : Type 0
 WideningLaw = (t : Tree) (outer : List ℕ) (z : List ℤ) → length z ≡ length outer → Widened outer (free_variables t) (Solutions t) z ↔ Holds t (valuation outer z)
 
+-- over its own variables a set of solutions is itself
+pub own-solutions : WideningLaw → (t : Tree) → SameSet (length (free_variables t)) (Solutions t) (Widened (free_variables t) (free_variables t) (Solutions t))
+own-solutions law t = record {
+  agrees = λ z count. (let e = law t (free_variables t) z count in (λ h. e.1 h.1, λ h. (count, e.0 h)));
+}
+
 abbrev pub part_of : Tree → Tree → Tree → List ℤ → Type 0
 part_of a b part = Widened (both_variables a b) (free_variables part) (Solutions part)
 

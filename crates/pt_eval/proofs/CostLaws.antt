@@ -1,5 +1,5 @@
 -- Costs of equal sets, and that the cost of a tree is not both over and within a bound.
-use Rattle.std.proofs.Common.{ℕ, ◌≤◌, inl, inr, List, [], ◌∷◌, length, ◌∙◌}
+use Rattle.std.proofs.Common.{ℕ, ◌≤◌, inl, inr, List, [], ◌∷◌, length, sym, subst, ◌∙◌}
 use Rattle.std.specs.List.{AllByRecursion}
 use Rattle.std.proofs.lemmas.Bool.{cases_lt}
 use Rattle.pt_sets.specs.Elements.{AnyByRecursion}
@@ -7,12 +7,19 @@ use Rattle.pt_sets.specs.Words.{Vector, AreLetters, after_digits}
 use Rattle.pt_sets.specs.Sets.{SameSet}
 use Rattle.pt_sets.specs.Costs.{CostWithin, CostIs, IsEquivalence, SameResidual}
 use Rattle.pt_sets.proofs.Digits.{length-after_digits}
-use Rattle.pt_sets.proofs.Counting.{costs-exclude, is-above, above-moved, residual-equivalence, pair-equivalence, family-equivalence}
+use Rattle.pt_sets.proofs.Counting.{SameSet-sym, costs-exclude, is-above, above-moved, residual-equivalence, pair-equivalence, family-equivalence}
+use Rattle.pt_sets.specs.Lists.{Lists, Home}
+use Rattle.pt_handles.specs.declared.handle.Handle.{Handle}
+use Rattle.pt_handles.specs.Handles.{SetOfHandle}
 use Rattle.pt_handles.specs.declared.fault.TableFault.{TableFault}
 use Rattle.pt_handles.specs.declared.fault.TableFault.TheVariants.{States, NoMemory}
 use Rattle.pt_handles.specs.Refusing.{StatesOnlyAbove}
+use Rattle.pt_formula.specs.declared.node.Node.{Node}
+use Rattle.pt_formula.specs.declared.node.Position.{Position}
+use Rattle.pt_formula.specs.Formulas.{tree_of, variables_of}
 use Rattle.pt_formula.specs.Truth.{Tree, True, False, Atom, Not, And, Or, Iff, Xor, Exists, Solutions, free_variables}
 use Rattle.pt_formula.specs.Costs.{SameValue, TreeCostAbove, TreeCostWithin, Restricts, solutions_within}
+use Rattle.pt_eval.specs.Evaluating.{HasSolutions, HasFewResiduals}
 
 module _ (one two : List ℕ → List ℕ → Type 0) (t : ℕ) where
   any-into : ((v w : List ℕ) → AreLetters t v → AreLetters t w → one v w → two v w) → (v : List ℕ) (ws : List (List ℕ)) → AreLetters t v → AllByRecursion (AreLetters t) ws → AnyByRecursion (one v) ws → AnyByRecursion (two v) ws
@@ -46,6 +53,15 @@ residual-moved t X Y same v w h = record {
 
 pub residuals-moved : (t B : ℕ) (X Y : Vector → Type 0) → SameSet t X Y → CostWithin (SameResidual t X) t B → CostWithin (SameResidual t Y) t B
 residuals-moved t B X Y same within = within-moved (SameResidual t X) (SameResidual t Y) t (λ v w hv hw h. residual-moved t X Y same v w h) B within
+
+-- the set of a handle of solutions has no more residuals than they have
+pub handle-residuals : (home : Home) (lists : Lists) (f : List (Node × Position)) (i bound : ℕ) (h : Handle) → HasSolutions home lists f i h → HasFewResiduals f bound i →
+    CostWithin (SameResidual h.tracks (SetOfHandle lists h)) h.tracks bound
+handle-residuals home lists f i bound h has few =
+    let t = length (variables_of f i) in
+    let X = SetOfHandle lists h in
+    subst (λ (n : ℕ). CostWithin (SameResidual n (SetOfHandle lists h)) n bound) (sym has.tracks)
+    (residuals-moved t bound (Solutions (tree_of f i)) X (SameSet-sym t X (Solutions (tree_of f i)) has.set) few)
 
 -- a number of values is at most each bound on it
 pub number-within : (same : List ℕ → List ℕ → Type 0) (t n B : ℕ) → IsEquivalence same t → CostIs same t n → CostWithin same t B → n ≤ B

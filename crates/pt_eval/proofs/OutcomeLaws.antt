@@ -6,13 +6,12 @@ use Rattle.pt_sets.specs.Sets.{SameSet}
 use Rattle.pt_sets.specs.Languages.{SetOf}
 use Rattle.pt_sets.specs.Lists.{Lists, Home}
 use Rattle.pt_sets.specs.Known.{Lacks, language_in}
-use Rattle.pt_sets.specs.Costs.{CostWithin, CostIs, SameResidual}
+use Rattle.pt_sets.specs.Costs.{CostWithin, SameResidual}
 use Rattle.pt_sets.proofs.Counting.{SameSet-sym, SameSet-trans}
 use Rattle.pt_store.specs.declared.fault.StoreFault.{StoreFault}
 use Rattle.pt_store.specs.declared.fault.StoreFault.TheVariants as store
 use Rattle.pt_handles.specs.declared.handle.Handle.{Handle}
 use Rattle.pt_handles.specs.Handles.{Has, SetOfHandle, FullOnlyWhereLacking}
-use Rattle.pt_handles.specs.Laws.{ReachedHandlesAreOne}
 use Rattle.pt_formula.specs.declared.node.Node.{Node}
 use Rattle.pt_formula.specs.declared.node.Position.{Position}
 use Rattle.pt_formula.specs.declared.Op.{Op}
@@ -27,7 +26,7 @@ use Rattle.pt_eval.specs.Evaluating.{IsCheap, HasFewResiduals}
 use Rattle.pt_eval.specs.Outcomes.{IsEvaluated, IsCheapBelow, HasCostlyBelow, IsOutcome, IsRefusal, RefusesWhere, known}
 use Rattle.pt_eval.proofs.CostLaws.{residuals-moved}
 use Rattle.pt_eval.proofs.QuantifierLaws.{TruthLaw, same-variables, unused-set, unused-within}
-use Rattle.pt_eval.proofs.NegationLaws.{negation-set, negation-residuals, handle-counted}
+use Rattle.pt_eval.proofs.NegationLaws.{negation-set, negation-residuals}
 
 -- ---- known handles and lacking go over to equal sets
 
@@ -126,14 +125,12 @@ module _ (home : Home) (lists : Lists) (f : List (Node × Position)) (bound i a 
   pub not-within : TreeCostWithin (tree_of f i) bound
   not-within = subst (λ (t : Tree). TreeCostWithin t bound) (sym tree) (negation-residuals (tree_of f a) bound child.residuals)
 
-  pub not-offers : ReachedHandlesAreOne → (old new : ℕ) → ((n : ℕ) → CostIs (SameResidual h.tracks (SetOfHandle lists h)) h.tracks n → new ≤ old + n) → new ≤ old + bound
-  not-offers law old new offers =
+  pub not-offers : (old new : ℕ) → ((n : ℕ) → CostWithin (SameResidual h.tracks (SetOfHandle lists h)) h.tracks n → new ≤ old + n) → new ≤ old + bound
+  not-offers old new offers =
       let back : SameSet (length (variables_of f a)) (Solutions (tree_of f a)) (SetOfHandle lists h) = SameSet-sym (length (variables_of f a)) (SetOfHandle lists h) (Solutions (tree_of f a)) child.solutions.set in
       let moved : CostWithin (SameResidual (length (variables_of f a)) (SetOfHandle lists h)) (length (variables_of f a)) bound = residuals-moved (length (variables_of f a)) bound (Solutions (tree_of f a)) (SetOfHandle lists h) back child.residuals in
       let there : CostWithin (SameResidual h.tracks (SetOfHandle lists h)) h.tracks bound = subst (λ (j : ℕ). CostWithin (SameResidual j (SetOfHandle lists h)) j bound) (sym child.solutions.tracks) moved in
-      let (count, few, is) = handle-counted law home lists h child.solutions.known bound there in
-      let most = offers count is in
-      omega (arith, few, most)
+      offers bound there
 
 -- ---- quantifiers over a variable that is not free
 

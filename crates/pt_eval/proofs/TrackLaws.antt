@@ -3,7 +3,7 @@ use Rattle.std.proofs.Common.{◌≡◌, ◌⊎◌, inl, inr, ℕ, suc, ◌<◌,
 use Rattle.std.proofs.lemmas.Bool.Decides.{nat_tests}
 use Rattle.std.specs.Prelude.{ℤ, pos, slice_index_or}
 use Rattle.std.specs.List.{AllByRecursion}
-use Rattle.pt_sets.specs.Elements.{PairsByRecursion}
+use Rattle.pt_sets.specs.Elements.{ContainsByRecursion, PairsByRecursion}
 use Rattle.pt_sets.specs.Restricting.{IsTrackMap, selected}
 use Rattle.pt_formula.specs.Forms.{IsIncreasing}
 use Rattle.pt_formula.specs.Truth.{insert_var, union, without, valuation}
@@ -142,6 +142,22 @@ is-track_map inner outer up order inside = record {
   within = map-inside outer inner inside;
   increasing = map-order outer inner order up inside;
 }
+
+-- each of some variables that are among others has a track
+contained-track : (v : ℕ) (us : List ℕ) → ContainsByRecursion v us → track_of v us < length us
+contained-track v us found = at us us (tracks-inside us) found
+  where
+    at : (all ws : List ℕ) → AllByRecursion (λ w. track_of w all < length all) ws → ContainsByRecursion v ws → track_of v all < length all
+    at all [] inside found = absurd found
+    at all (w ∷ ws) inside (inl here) = subst (λ x. track_of x all < length all) (sym here) inside.0
+    at all (w ∷ ws) inside (inr there) = at all ws inside.1 there
+
+contained-tracks : (us vs : List ℕ) → AllByRecursion (λ v. ContainsByRecursion v us) vs → AllByRecursion (λ w. track_of w us < length us) vs
+contained-tracks us [] h = tt
+contained-tracks us (v ∷ vs) h = (contained-track v us h.0, contained-tracks us vs h.1)
+
+pub tracks-are-maps : (inner outer : List ℕ) → IsIncreasing inner → IsIncreasing outer → AllByRecursion (λ v. ContainsByRecursion v outer) inner → IsTrackMap (length inner) (length outer) (tracks_of inner outer)
+tracks-are-maps inner outer up order among = is-track_map inner outer up order (contained-tracks outer inner among)
 
 -- ---- a variable that is left out
 

@@ -1,5 +1,5 @@
 -- What an evaluation of a formula's nodes gives, and why it refuses.
-use Rattle.std.specs.Prelude.{◌≡◌, ℕ, List, length, slice_get, slice_index, Some}
+use Rattle.std.specs.Prelude.{◌≡◌, ℕ, ◌<◌, List, length, slice_get, slice_index, Some}
 use Rattle.pt_sets.specs.Costs.{CostWithin, SameResidual}
 use Rattle.pt_sets.specs.Lists.{Lists, Home, list_of}
 use Rattle.pt_sets.specs.Known.{Lacks}
@@ -45,6 +45,11 @@ LacksSolutions home limit lists f i = Lacks home limit lists (length (variables_
 -- a shard is full: its list is at the limit
 abbrev pub IsFullAt : ℕ → Lists → ℕ → ℕ → Type 0
 IsFullAt limit lists shard count = (count ≡ limit) × (length (list_of lists shard) ≡ limit)
+
+-- a refused node is one of the formula's
+abbrev pub RefusesOneOf : List (Node × Position) → EvalFault → Type 0
+RefusesOneOf f (States node) = node < length f
+RefusesOneOf f _ = Unit {0}
 
 -- Why an evaluation of the roots refuses: the refused node; or a full shard, only where the lists lack the solutions of a
 -- cheap node that the roots reach; or want of memory.

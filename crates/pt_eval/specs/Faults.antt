@@ -7,3 +7,7 @@ use Rattle.pt_eval.specs.declared.fault.EvalFault.TheVariants.{Full, NoMemory}
 abbrev pub of_store : StoreFault → EvalFault
 of_store (store.Full shard count) = Full shard count
 of_store store.NoMemory = NoMemory
+
+-- want of memory
+abbrev pub no_memory : EvalFault
+no_memory = NoMemory

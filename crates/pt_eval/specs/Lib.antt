@@ -3,3 +3,4 @@ pub mod Levels
 pub mod Outcomes
 pub mod Parts
 pub mod Faults
+pub mod Laws

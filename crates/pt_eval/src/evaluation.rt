@@ -4,7 +4,7 @@ ghost use Rattle.std.specs.List.{AllByRecursion};
 ghost use Rattle.pt_sets.specs.Lists.{Extends};
 ghost use Rattle.pt_formula.specs.Costs.{NoneRefused};
 ghost use Rattle.pt_handles.specs.declared.handle.Handle.{Handle as HandleValue};
-ghost use Rattle.pt_eval.specs.Evaluating.{HaveSolutions, KnowsReached, HaveFewResiduals, RefusesRoots};
+ghost use Rattle.pt_eval.specs.Evaluating.{HaveSolutions, KnowsReached, HaveFewResiduals, RefusesRoots, RefusesOneOf};
 ghost use Rattle.pt_eval.specs.Levels.{AreOrdered, IsPlanned};
 ghost use Rattle.pt_eval.specs.Outcomes.{AreOutcomes, AreWritten, IsSettled, RefusesWhere, costly, known, outcome_at};
 
@@ -58,13 +58,11 @@ pub fn evaluate<I: Interner, G: Gate, R: Threads + Sync>(
     ensures within { OnOk result (NoneRefused formula.now roots.now bound) }
     ensures residuals { OnOk result (HaveFewResiduals formula.now roots.now bound) }
     ensures err { IfErr result (RefusesRoots formula.now roots.now bound I.Pass.home (I.limit_of store.now) (I.Pass.lists pass.new)) }
+    ensures node { IfErr result (RefusesOneOf formula.now) }
     ensures offers { I.Pass.offered pass.new ≤ I.Pass.offered pass.old + length formula.now * bound }
 {
-    let _formula = formula.len();
-    let rows = match plan(alloc, formula, roots) {
-        Ok(rows) => rows,
-        Err(_) => return Err(EvalFault::NoMemory),
-    };
+    formula.is_formula();
+    let rows = plan(alloc, formula, roots)?;
     let outcomes = match evaluate_rows(rt, alloc, store, pass, formula, bound, gate, &rows) {
         Ok(outcomes) => outcomes,
         Err(fault) => return Err(EvalFault::from(fault)),
@@ -72,10 +70,8 @@ pub fn evaluate<I: Interner, G: Gate, R: Threads + Sync>(
     if let Some(node) = first_costly(&outcomes) {
         return Err(EvalFault::States { node });
     }
-    match handles_of(alloc, &outcomes, roots) {
-        Ok(handles) => Ok(handles),
-        Err(_) => Err(EvalFault::NoMemory),
-    }
+    let handles = handles_of(alloc, &outcomes, roots)?;
+    Ok(handles)
 }
 
 /// The outcome of each node in the lists, evaluated list by list; of the others none yet.

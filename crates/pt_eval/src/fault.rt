@@ -1,9 +1,11 @@
 // Why an evaluation refuses.
 ghost use Rattle.std.specs.Prelude.{◌≡◌};
-ghost use Rattle.pt_eval.specs.Faults.{of_store};
+ghost use Rattle.pt_eval.specs.Faults.{of_store, no_memory};
 
 use pt_formula::NodeId;
 use pt_store::StoreFault;
+use pt_tables::NoMemory;
+use std::alloc::AllocError;
 
 /// Why formulas were not evaluated.
 #[derive(Clone, Copy, Debug, PartialEq, Eq)]
@@ -24,5 +26,21 @@ impl From<StoreFault> for EvalFault {
             StoreFault::Full { shard, count } => EvalFault::Full { shard, count },
             StoreFault::NoMemory => EvalFault::NoMemory,
         }
+    }
+}
+
+impl From<NoMemory> for EvalFault {
+    ghost from_gives = { λ _ fault. fault ≡ no_memory };
+
+    fn from(_error: NoMemory) -> Self {
+        EvalFault::NoMemory
+    }
+}
+
+impl From<AllocError> for EvalFault {
+    ghost from_gives = { λ _ fault. fault ≡ no_memory };
+
+    fn from(_error: AllocError) -> Self {
+        EvalFault::NoMemory
     }
 }

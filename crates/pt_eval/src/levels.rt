@@ -130,7 +130,7 @@ pub(crate) fn plan(
     requires { AllByRecursion (λ root. root < length formula.now) roots.now }
     ensures { IfOk result (λ rows. IsPlan formula.now roots.now rows.items) }
 {
-    let _formula = formula.len();
+    formula.is_formula();
     let marks = mark_reached(alloc, formula, roots)?;
     let levels = level_list(alloc, formula)?;
     let rows = level_rows(alloc, &marks, &levels, height(&levels))?;

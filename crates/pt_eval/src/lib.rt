@@ -16,7 +16,7 @@ mod tracks;
 pub use evaluation::evaluate;
 pub use fault::EvalFault;
 pub use gate::{Gate, Open};
-pub use laws::refusals_are_exact;
+pub use laws::{handles_of_solutions_are_widened_by_tracks, refusals_are_exact};
 pub use tracks::track_map;
 
 #[cfg(test)]

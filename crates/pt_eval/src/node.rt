@@ -13,7 +13,7 @@ use pt_formula::laws::{
     trees_are_made_of_those_of_the_children, truth_depends_on_free_variables_alone,
 };
 use pt_formula::{Formula, Node, NodeId, Op, Var};
-use pt_handles::{Handle, TableFault, adopt, reached_handles_are_residuals};
+use pt_handles::{Handle, TableFault, adopt};
 use pt_product::complement;
 use pt_store::{Codes, Interner, StoreFault};
 use pt_tables::Table;
@@ -55,7 +55,7 @@ fn settle<I: Interner, R: Threads + Sync>(
 {
     match made {
         Ok(table) => {
-            let _valid = table.states();
+            table.is_automaton();
             match adopt(rt, alloc, store, pass, &table, 0) {
                 Ok(handle) => Ok(Outcome::Known(handle)),
                 Err(fault) => Err(fault),
@@ -90,8 +90,7 @@ fn evaluate_not<I: Interner, R: Threads + Sync>(
     ensures offers { I.Pass.offered pass.new ≤ I.Pass.offered pass.old + bound }
 {
     trees_are_made_of_those_of_the_children();
-    reached_handles_are_residuals();
-    let _formula = formula.len();
+    formula.is_formula();
     let Some(child) = handle_of(outcomes[a as usize]) else {
         return Ok(Outcome::LeftOut);
     };
@@ -128,7 +127,7 @@ fn evaluate_binary<I: Interner, R: Threads + Sync>(
     ensures err { IfErr result (RefusesWhere (λ i. id ≡ i) formula.now bound I.Pass.home (I.limit_of store.now) (I.Pass.lists pass.new)) }
     ensures offers { I.Pass.offered pass.new ≤ I.Pass.offered pass.old + bound }
 {
-    let _formula = formula.len();
+    formula.is_formula();
     let Some(left) = handle_of(outcomes[a as usize]) else {
         return Ok(Outcome::LeftOut);
     };
@@ -167,7 +166,7 @@ fn evaluate_exists<I: Interner, R: Threads + Sync>(
 {
     truth_depends_on_free_variables_alone();
     trees_are_made_of_those_of_the_children();
-    let _formula = formula.len();
+    formula.is_formula();
     let Some(body) = handle_of(outcomes[a as usize]) else {
         return Ok(Outcome::LeftOut);
     };
@@ -206,7 +205,7 @@ pub(crate) fn evaluate_node<I: Interner, R: Threads + Sync>(
     ensures offers { I.Pass.offered pass.new ≤ I.Pass.offered pass.old + bound }
 {
     trees_are_made_of_those_of_the_children();
-    let _formula = formula.len();
+    formula.is_formula();
     let (op, a, b) = match formula.node(id) {
         Node::True => {
             let made = truth_solutions(alloc, true, bound);

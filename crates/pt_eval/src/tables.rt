@@ -120,7 +120,7 @@ pub(crate) fn binary_solutions<P: Codes>(
 {
     trees_are_made_of_those_of_the_children();
     widening_puts_no_condition_on_added_variables();
-    let _formula = formula.len();
+    formula.is_formula();
     let variables = formula.variables(id);
     let variables_a = formula.variables(a);
     let variables_b = formula.variables(b);

@@ -21,7 +21,7 @@ returns-then-track-variables-clause-ok g c =
     let home = g.I.Pass.Codes.home in
     let old = g.I.Pass.Codes.lists c.args.pass.now in
     let child : children (node_at f c.args.id) ≡ c.args.a ∷ [] = ap children c.requires.node in
-    let tree : tree_of f c.args.id ≡ Exists c.args.v (tree_of f c.args.a) = c.trees_are_made_of_those_of_the_children.ensures f c.args.id c.len-formula.ensures.formula ∙ ap (node_tree (tree_of f)) c.requires.node in
+    let tree : tree_of f c.args.id ≡ Exists c.args.v (tree_of f c.args.a) = c.trees_are_made_of_those_of_the_children.ensures f c.args.id c.is_formula.ensures ∙ ap (node_tree (tree_of f)) c.requires.node in
     let e = evaluated home old f c.args.bound c.args.a (outcome_at c.args.outcomes.now c.args.a) c.in-Some.body c.in-Some.ensures.some (c.requires.outcomes.each c.args.a) in
     let below = cheap-below f c.args.bound c.args.id (only-child f c.args.id c.args.a (IsCheap f c.args.bound) child e.cheap) in
     let vs = c.variables-variables.result.now in
@@ -41,5 +41,5 @@ settle-requires-clause-below g c κs within =
 pub settle-requires-clause-err : goal.settle-requires-clause-err
 settle-requires-clause-err g c κs within =
     let f = c.args.formula.now in
-    let tree : tree_of f c.args.id ≡ Exists c.args.v (tree_of f c.args.a) = c.trees_are_made_of_those_of_the_children.ensures f c.args.id c.len-formula.ensures.formula ∙ ap (node_tree (tree_of f)) c.requires.node in
+    let tree : tree_of f c.args.id ≡ Exists c.args.v (tree_of f c.args.a) = c.trees_are_made_of_those_of_the_children.ensures f c.args.id c.is_formula.ensures ∙ ap (node_tree (tree_of f)) c.requires.node in
     subst (λ (t : Tree). IfErr c.exists_solutions-made.result (RefusesTree t c.args.bound)) (sym tree) c.exists_solutions-made.ensures.err

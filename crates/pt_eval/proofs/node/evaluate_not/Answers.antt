@@ -20,7 +20,7 @@ returns-in-Ok-clause-ok g c =
     let home = g.I.Pass.Codes.home in
     let old = g.I.Pass.Codes.lists c.args.pass.now in
     let child : children (node_at f c.args.id) ≡ c.args.a ∷ [] = ap children c.requires.node in
-    let tree : tree_of f c.args.id ≡ Not (tree_of f c.args.a) = c.trees_are_made_of_those_of_the_children.ensures f c.args.id c.len-formula.ensures.formula ∙ ap (node_tree (tree_of f)) c.requires.node in
+    let tree : tree_of f c.args.id ≡ Not (tree_of f c.args.a) = c.trees_are_made_of_those_of_the_children.ensures f c.args.id c.is_formula.ensures ∙ ap (node_tree (tree_of f)) c.requires.node in
     let e = evaluated home old f c.args.bound c.args.a (outcome_at c.args.outcomes.now c.args.a) c.in-Some.child c.in-Some.ensures.some (c.requires.outcomes.each c.args.a) in
     let below = cheap-below f c.args.bound c.args.id (only-child f c.args.id c.args.a (IsCheap f c.args.bound) child e.cheap) in (
       table-evaluated home (g.I.Pass.Codes.lists c.complement.new.pass) f c.args.bound c.args.id c.in-Some.child.tracks (outside (SetOfHandle old c.in-Some.child)) c.in-Ok.outside below
@@ -33,9 +33,9 @@ returns-in-Ok-clause-offers g c =
     let f = c.args.formula.now in
     let home = g.I.Pass.Codes.home in
     let old = g.I.Pass.Codes.lists c.args.pass.now in
-    let tree : tree_of f c.args.id ≡ Not (tree_of f c.args.a) = c.trees_are_made_of_those_of_the_children.ensures f c.args.id c.len-formula.ensures.formula ∙ ap (node_tree (tree_of f)) c.requires.node in
+    let tree : tree_of f c.args.id ≡ Not (tree_of f c.args.a) = c.trees_are_made_of_those_of_the_children.ensures f c.args.id c.is_formula.ensures ∙ ap (node_tree (tree_of f)) c.requires.node in
     let e = evaluated home old f c.args.bound c.args.a (outcome_at c.args.outcomes.now c.args.a) c.in-Some.child c.in-Some.ensures.some (c.requires.outcomes.each c.args.a) in
-    not-offers home old f c.args.bound c.args.id c.args.a tree c.in-Some.child e c.reached_handles_are_residuals.ensures.one (g.I.Pass.Codes.offered c.args.pass.now) (g.I.Pass.Codes.offered c.complement.new.pass) c.complement.ensures.offers
+    not-offers home old f c.args.bound c.args.id c.args.a tree c.in-Some.child e (g.I.Pass.Codes.offered c.args.pass.now) (g.I.Pass.Codes.offered c.complement.new.pass) c.complement.ensures.offers
 
 pub returns-in-Err-clause-err : goal.returns-in-Err-clause-err
 returns-in-Err-clause-err g c =
@@ -43,7 +43,7 @@ returns-in-Err-clause-err g c =
     let home = g.I.Pass.Codes.home in
     let old = g.I.Pass.Codes.lists c.args.pass.now in
     let child : children (node_at f c.args.id) ≡ c.args.a ∷ [] = ap children c.requires.node in
-    let tree : tree_of f c.args.id ≡ Not (tree_of f c.args.a) = c.trees_are_made_of_those_of_the_children.ensures f c.args.id c.len-formula.ensures.formula ∙ ap (node_tree (tree_of f)) c.requires.node in
+    let tree : tree_of f c.args.id ≡ Not (tree_of f c.args.a) = c.trees_are_made_of_those_of_the_children.ensures f c.args.id c.is_formula.ensures ∙ ap (node_tree (tree_of f)) c.requires.node in
     let e = evaluated home old f c.args.bound c.args.a (outcome_at c.args.outcomes.now c.args.a) c.in-Some.child c.in-Some.ensures.some (c.requires.outcomes.each c.args.a) in
     let below = cheap-below f c.args.bound c.args.id (only-child f c.args.id c.args.a (IsCheap f c.args.bound) child e.cheap) in
     full-where (λ (i : ℕ). c.args.id ≡ i) f c.args.bound c.args.id refl (cheap-node f c.args.bound c.args.id below (not-within home old f c.args.bound c.args.id c.args.a tree c.in-Some.child e)) home (g.I.Interner.limit_of c.args.store.now) (g.I.Pass.Codes.lists c.complement.new.pass)
@@ -54,6 +54,6 @@ returns-in-Err-clause-offers g c =
     let f = c.args.formula.now in
     let home = g.I.Pass.Codes.home in
     let old = g.I.Pass.Codes.lists c.args.pass.now in
-    let tree : tree_of f c.args.id ≡ Not (tree_of f c.args.a) = c.trees_are_made_of_those_of_the_children.ensures f c.args.id c.len-formula.ensures.formula ∙ ap (node_tree (tree_of f)) c.requires.node in
+    let tree : tree_of f c.args.id ≡ Not (tree_of f c.args.a) = c.trees_are_made_of_those_of_the_children.ensures f c.args.id c.is_formula.ensures ∙ ap (node_tree (tree_of f)) c.requires.node in
     let e = evaluated home old f c.args.bound c.args.a (outcome_at c.args.outcomes.now c.args.a) c.in-Some.child c.in-Some.ensures.some (c.requires.outcomes.each c.args.a) in
-    not-offers home old f c.args.bound c.args.id c.args.a tree c.in-Some.child e c.reached_handles_are_residuals.ensures.one (g.I.Pass.Codes.offered c.args.pass.now) (g.I.Pass.Codes.offered c.complement.new.pass) c.complement.ensures.offers
+    not-offers home old f c.args.bound c.args.id c.args.a tree c.in-Some.child e (g.I.Pass.Codes.offered c.args.pass.now) (g.I.Pass.Codes.offered c.complement.new.pass) c.complement.ensures.offers
