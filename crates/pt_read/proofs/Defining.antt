@@ -5,17 +5,19 @@ use Rattle.std.specs.List.{AllByRecursion}
 use Rattle.std.proofs.lemmas.List.{append-nil, reverse-append}
 use Rattle.pt_syntax.specs.declared.sexpr.SExpr.{SExpr}
 use Rattle.pt_syntax.specs.declared.kinds.ReadRefusal.{ReadRefusal}
-use Rattle.pt_read.specs.declared.command.Meaning.{Meaning}
-use Rattle.pt_read.specs.declared.command.Meaning.TheVariants.{Int}
+use Rattle.pt_terms.specs.declared.meaning.Meaning.{Meaning}
+use Rattle.pt_terms.specs.declared.meaning.Meaning.TheVariants.{Int}
 use Rattle.pt_read.specs.declared.command.CommandKind.{CommandKind}
-use Rattle.pt_read.specs.Elaboration.{Work, Elab, give, follow, ◌>>=◌, variable_form}
-use Rattle.pt_read.specs.Environment.{outermost}
-use Rattle.pt_read.specs.Gives.{Gives, Fails, Grows}
-use Rattle.pt_read.specs.Sound.{IsMeaningIn, IsUseIn, IsEnvIn}
-use Rattle.pt_read.proofs.Ranges.{env_more}
-use Rattle.pt_read.specs.Scope.{Name, State, Symbol}
-use Rattle.pt_read.specs.Names.{Env, bind, items_of, place_of}
-use Rattle.pt_read.specs.Special.{variable, with_pair, as_bound, items_or_none}
+use Rattle.pt_terms.specs.Elaboration.{Work, Elab, give, follow, ◌>>=◌, variable_form}
+use Rattle.pt_terms.specs.Environment.{outermost}
+use Rattle.pt_terms.specs.Gives.{Gives, Fails, Grows}
+use Rattle.pt_terms.specs.Sound.{IsMeaningIn, IsUseIn, IsEnvIn}
+use Rattle.pt_read.proofs.ItemLemmas.{NamesStay}
+use Rattle.pt_grammar.specs.Words.{Name}
+use Rattle.pt_read.specs.Scope.{State}
+use Rattle.pt_terms.specs.Names.{Symbol, Env, bind}
+use Rattle.pt_grammar.specs.Exprs.{items_of, place_of, items_or_none}
+use Rattle.pt_terms.specs.Terms.{variable, with_pair, as_bound}
 use Rattle.pt_read.specs.Commands.{distinct_variables, defined, new_name, result_sort}
 use Rattle.pt_read.specs.Defining.{parameter_named, parameters_from, definition_of, defined_by}
 
@@ -73,8 +75,8 @@ gives_defined s name parameters sort body old new (Err e) h = subst (Fails e) (s
 pub variable_in : (w : Work) (v : ℕ) → v < w.given → IsMeaningIn w (Int (variable_form v))
 variable_in w v h = (record { terms = ((tt, tt), (refl, tt)); few = refl; small = refl }, (h, tt))
 
-pub bound_more : (v w : Work) (bound : List (Name × Meaning)) → Grows v w → AllByRecursion (λ (b : Name × Meaning). IsMeaningIn v b.1) bound → AllByRecursion (λ (b : Name × Meaning). IsMeaningIn w b.1) bound
-bound_more v w bound g h = (env_more v w (record { bound = bound; live = [] }) g (record { bound = h; live = tt })).bound
+pub bound_more : NamesStay → (v w : Work) (bound : List (Name × Meaning)) → Grows v w → AllByRecursion (λ (b : Name × Meaning). IsMeaningIn v b.1) bound → AllByRecursion (λ (b : Name × Meaning). IsMeaningIn w b.1) bound
+bound_more stay v w bound g h = (stay v w (record { bound = bound; live = [] }) g (record { bound = h; live = tt })).bound
 
 pub bound_with : (w : Work) (symbols : List Symbol) (bound : List (Name × Meaning)) → AllByRecursion (λ (x : Symbol). IsUseIn w x.stands_for) symbols → AllByRecursion (λ (b : Name × Meaning). IsMeaningIn w b.1) bound → IsEnvIn w (bind bound (outermost symbols))
 bound_with w symbols bound live h = record { bound = subst (AllByRecursion (λ (b : Name × Meaning). IsMeaningIn w b.1)) (sym (append-nil bound)) h; live = live }
@@ -82,8 +84,8 @@ bound_with w symbols bound live h = record { bound = subst (AllByRecursion (λ (
 pub bind_outermost : (symbols : List Symbol) (bound : List (Name × Meaning)) → ◌≡◌ {A = Env} (bind bound (outermost symbols)) (record { bound = bound; live = symbols })
 bind_outermost symbols bound = ap (λ (b : List (Name × Meaning)). record { bound = b; live = symbols }) (append-nil bound)
 
-pub as_bound_in : (v w : Work) (bound new : List (Name × Meaning)) (x : Name × ℕ) → Grows v w → x.1 < w.given → new ≡ as_bound x ∷ bound → AllByRecursion (λ (b : Name × Meaning). IsMeaningIn v b.1) bound → AllByRecursion (λ (b : Name × Meaning). IsMeaningIn w b.1) new
-as_bound_in v w bound new x g lt is h = subst (AllByRecursion (λ (b : Name × Meaning). IsMeaningIn w b.1)) (sym is) (variable_in w x.1 lt, bound_more v w bound g h)
+pub as_bound_in : NamesStay → (v w : Work) (bound new : List (Name × Meaning)) (x : Name × ℕ) → Grows v w → x.1 < w.given → new ≡ as_bound x ∷ bound → AllByRecursion (λ (b : Name × Meaning). IsMeaningIn v b.1) bound → AllByRecursion (λ (b : Name × Meaning). IsMeaningIn w b.1) new
+as_bound_in stay v w bound new x g lt is h = subst (AllByRecursion (λ (b : Name × Meaning). IsMeaningIn w b.1)) (sym is) (variable_in w x.1 lt, bound_more stay v w bound g h)
 
 -- what stands once the name and the parameters are read
 pub after_parameters : (s : State) (name parameters sort body : SExpr) (w v : Work) (x : Name) (ps : Parameters) → new_name s name w ≡ Ok (x, w) → parameters_from [] [] (items_or_none (items_of parameters)) w ≡ Ok (ps, v) → defined_by s name parameters sort body w ≡ follow (result_sort sort v) (definition_of x s body ps)

@@ -10,44 +10,22 @@ use Rattle.pt_formula.specs.Formulas.{start as start_formula, node_at, entry_nod
 use Rattle.pt_syntax.specs.declared.sexpr.SExpr.{SExpr}
 use Rattle.pt_syntax.specs.declared.kinds.ReadRefusal.{ReadRefusal}
 use Rattle.pt_read.specs.declared.command.Command.{Command}
-use Rattle.pt_read.specs.declared.command.Meaning.{Meaning}
-use Rattle.pt_read.specs.declared.command.Meaning.TheVariants.{Int, Bool as Truth}
-use Rattle.pt_read.specs.Elaboration.{Work}
-use Rattle.pt_read.specs.Scope.{State, Symbol, Assertion, Use, Constant_of, Defined, conjunction, last_conjunction}
-use Rattle.pt_read.specs.Sound.{AreBelow, AreTermsBelow, IsMeaningIn, IsUseIn, IsEnvIn}
-use Rattle.pt_read.specs.Gives.{Gives, Grows}
+use Rattle.pt_terms.specs.declared.meaning.Meaning.{Meaning}
+use Rattle.pt_terms.specs.declared.meaning.Meaning.TheVariants.{Int, Bool as Truth}
+use Rattle.pt_terms.specs.Elaboration.{Work}
+use Rattle.pt_read.specs.Scope.{State, Assertion, conjunction, last_conjunction}
+use Rattle.pt_terms.specs.Names.{Symbol, Use, Constant_of, Defined}
+use Rattle.pt_terms.specs.Sound.{AreBelow, AreTermsBelow, IsMeaningIn, IsUseIn, IsEnvIn}
+use Rattle.pt_terms.specs.Gives.{Gives, Grows}
 use Rattle.pt_read.specs.Lasting.{IsConstantUpTo, IsUseSound, IsSound}
-use Rattle.pt_read.specs.Environment.{outermost}
-use Rattle.pt_read.specs.Standing.{LastIs, Stands, commanded, joined}
-use Rattle.pt_read.specs.Context.{IsKindIn}
+use Rattle.pt_terms.specs.Environment.{outermost}
+use Rattle.pt_read.specs.Context.{LastIs, Stands, commanded, joined, IsKindIn}
 use Rattle.pt_read.specs.Fits.{IsMeaning, free_of}
 use Rattle.pt_read.specs.Reader.{with_work, Elaborated}
 use Rattle.pt_read.specs.Commands.{elaborate}
-use Rattle.pt_read.proofs.FreeSteps.{Nodes}
-use Rattle.pt_read.proofs.FreeNodes.{IsWhole, within-or-none}
 use Rattle.pt_read.proofs.Fitting.{IsStep, start, constants-below, any-constant}
 use Rattle.pt_read.proofs.FittingWhole.{fits-elaborated}
-
--- the laws of formulas, of one whole formula
-abbrev Fronts : Type 0
-Fronts = (f more : Nodes) (i : ℕ) → IsFormula (f ++ more) → i < length f → variables_of (f ++ more) i ≡ variables_of f i
-
-abbrev Trees : Type 0
-Trees = (f : Nodes) (i : ℕ) → IsFormula f → tree_of f i ≡ node_tree (tree_of f) (node_at f i)
-
-pub whole-formula : Fronts → Trees → (F : Nodes) → IsFormula F → IsWhole F
-whole-formula fronts trees F h = record {
-  fronts = λ f more i e lt. ap (λ (g : Nodes). variables_of g i) e ∙ fronts f more i (subst IsFormula e h) lt;
-  trees = λ i. trees F i h;
-  earlier = λ i c k. elim (within-or-none F i) [
-    | inl lt ↦ member (λ d. d < i) (children (node_at F i)) (h.each i lt).earlier c k
-    | inr none ↦ absurd (subst (λ n. ContainsByRecursion c (children n)) (ap entry_node none) k)
-  ];
-}
-  where
-    member : (P : ℕ → Type 0) (us : List ℕ) → AllByRecursion P us → (u : ℕ) → ContainsByRecursion u us → P u
-    member P [] h u c = absurd c
-    member P (x ∷ us) h u c = elim c [ inl e ↦ subst P (sym e) h.0 | inr k ↦ member P us h.1 u k ]
+use Rattle.pt_terms.specs.Free.{Nodes, IsWhole, AreTermsOver}
 
 -- ---- what elaboration asks for
 
@@ -108,9 +86,8 @@ scope-stands s = (refl, last s.assertions refl)
 
 -- ---- what it leaves
 
-pub elaborated : Fronts → Trees → (s : State) (p : Position) (items : List SExpr) (w : Work) (r : Result Command ReadRefusal) → IsFormula w.formula → AreBelow s.formula s.given → IsSound s → Gives (λ c. c) r (start s) w (commanded s p items) → IfOk r (λ c. IsKindIn w c.kind) → Grows (start s) w → Elaborated r s (with_work w s) (elaborate s p items)
-elaborated fronts trees s p items w (Ok c) formula below sound gives range grows =
-    let step : IsStep s w = record { whole = whole-formula fronts trees w.formula formula; front = grows.nodes; given = grows.given; below = below; sound = sound } in
+pub elaborated : ((f : Nodes) → IsFormula f → IsWhole f) → ((f : Nodes) → IsFormula f → AreTermsOver f) → (s : State) (p : Position) (items : List SExpr) (w : Work) (r : Result Command ReadRefusal) → IsFormula w.formula → AreBelow s.formula s.given → IsSound s → Gives (λ c. c) r (start s) w (commanded s p items) → IfOk r (λ c. IsKindIn w c.kind) → Grows (start s) w → Elaborated r s (with_work w s) (elaborate s p items)
+elaborated whole terms s p items w (Ok c) formula below sound gives range grows =
+    let step : IsStep s w = record { whole = whole w.formula formula; terms = terms w.formula formula; front = grows.nodes; given = grows.given; below = below; sound = sound } in
     (w, gives, refl, fits-elaborated s p items c w step range gives)
-elaborated fronts trees s p items w (Err e) formula below sound gives range grows =
-    (gives, record { nodes = grows.nodes; given = grows.given; depth = refl; symbols = refl; assertions = refl })
+elaborated whole terms s p items w (Err e) formula below sound gives range grows = gives

@@ -12,19 +12,18 @@ use Rattle.pt_formula.specs.Truth.{free_variables}
 use Rattle.pt_formula.specs.Formulas.{node_tree, tree_of, variables_of}
 use Rattle.pt_syntax.specs.declared.kinds.ReadKind.{ReadKind}
 use Rattle.pt_syntax.specs.declared.kinds.ReadRefusal.{ReadRefusal}
-use Rattle.pt_read.specs.declared.command.Meaning.{Meaning}
-use Rattle.pt_read.specs.declared.command.Meaning.TheVariants.{Int, Bool as Truth}
-use Rattle.pt_read.specs.declared.command.Constant.{Constant}
-use Rattle.pt_read.specs.Elaboration.{Work, Elab, give, follow, ◌>>=◌, require, built, make}
-use Rattle.pt_read.specs.Scope.{Name, State, Symbol, Use, Constant_of, Defined, find_symbol, constant_in, constants_in}
-use Rattle.pt_read.specs.Sound.{AreBelow}
+use Rattle.pt_terms.specs.declared.meaning.Meaning.{Meaning}
+use Rattle.pt_terms.specs.declared.meaning.Meaning.TheVariants.{Int, Bool as Truth}
+use Rattle.pt_terms.specs.declared.meaning.Constant.{Constant}
+use Rattle.pt_terms.specs.Elaboration.{Work, Elab, give, follow, ◌>>=◌, require, built, make}
+use Rattle.pt_grammar.specs.Words.{Name}
+use Rattle.pt_read.specs.Scope.{State}
+use Rattle.pt_terms.specs.Names.{Symbol, Use, Constant_of, Defined, find_symbol, constant_in, constants_in}
+use Rattle.pt_terms.specs.Sound.{AreBelow}
 use Rattle.pt_read.specs.Lasting.{IsConstantUpTo, IsUseSound, IsSound}
 use Rattle.pt_read.specs.Fits.{IsConstant, IsMeaning, free_of}
 use Rattle.pt_read.specs.Commands.{env}
-use Rattle.pt_read.proofs.FreeSteps.{IsFront}
-use Rattle.pt_read.proofs.FreeNodes.{IsWhole}
-use Rattle.pt_read.proofs.FreeTerms.{MeaningIn}
-use Rattle.pt_read.proofs.FreeWholeTerms.{UseIn, EnvIn}
+use Rattle.pt_terms.specs.Free.{IsFront, IsWhole, MeaningIn, UseIn, EnvIn, AreTermsOver}
 
 -- ---- steps taken apart
 
@@ -58,6 +57,7 @@ make-inv n p i w w' e = through (nat_lt MAX_TRACKS (length (free_variables (node
 
 pub record IsStep (s : State) (w : Work) : Type 0 where
   pub whole : IsWhole w.formula
+  pub terms : AreTermsOver w.formula
   pub front : IsFront s.formula w.formula
   pub given : s.given ≤ w.given
   pub below : AreBelow s.formula s.given
@@ -95,9 +95,9 @@ any-constant level v (x ∷ xs) h = by-level (nat_le x.level level) (any-constan
     by-level false go k = any-join-right P (constant_in x x.stands_for) (constants_in xs) (go k)
 
 -- the live names, as the terms of a command see them
-symbols-in : (s : State) (w : Work) → IsStep s w → (xs : List Symbol) → AllByRecursion (λ (x : Symbol). (x.level ≤ s.depth) × IsUseSound s x.level x.stands_for) xs → ((v : ℕ) → AnyByRecursion (λ (c : Constant). c.variable ≡ v) (constants_in xs) → IsConstant s v) → AllByRecursion (λ (x : Symbol). UseIn (IsConstant s) w.formula x.stands_for (length s.formula)) xs
-symbols-in s w h [] all in-s = tt
-symbols-in s w h (x ∷ xs) all in-s = (by-use x.stands_for refl all.0.1, symbols-in s w h xs all.1 (λ v k. in-s v (any-join-right (λ (c : Constant). c.variable ≡ v) (constant_in x x.stands_for) (constants_in xs) k)))
+symbols-in : (s : State) (w : Work) (V : ℕ → Type 0) → IsStep s w → (xs : List Symbol) → AllByRecursion (λ (x : Symbol). (x.level ≤ s.depth) × IsUseSound s x.level x.stands_for) xs → ((v : ℕ) → AnyByRecursion (λ (c : Constant). c.variable ≡ v) (constants_in xs) → V v) → ((v : ℕ) → IsConstant s v → V v) → AllByRecursion (λ (x : Symbol). UseIn V w.formula x.stands_for (length s.formula)) xs
+symbols-in s w V h [] all in-s in-v = tt
+symbols-in s w V h (x ∷ xs) all in-s in-v = (by-use x.stands_for refl all.0.1, symbols-in s w V h xs all.1 (λ v k. in-s v (any-join-right (λ (c : Constant). c.variable ≡ v) (constant_in x x.stands_for) (constants_in xs) k)) in-v)
   where
     over : (P R : ℕ → Type 0) (us : List ℕ) → ((v : ℕ) → P v → R v) → AllByRecursion P us → AllByRecursion R us
     over P R [] f k = tt
@@ -107,19 +107,35 @@ symbols-in s w h (x ∷ xs) all in-s = (by-use x.stands_for refl all.0.1, symbol
     terms P [] k = tt
     terms P (t ∷ ts) k = (k.0, terms P ts k.1)
 
-    wider : (ps : List ℕ) (v : ℕ) → ContainsByRecursion v ps ⊎ IsConstantUpTo x.level s.symbols v → IsConstant s v ⊎ ContainsByRecursion v ps
-    wider ps v k = elim k [ inl d ↦ inr d | inr d ↦ inl (any-constant x.level v s.symbols d) ]
+    wider : (ps : List ℕ) (v : ℕ) → ContainsByRecursion v ps ⊎ IsConstantUpTo x.level s.symbols v → V v ⊎ ContainsByRecursion v ps
+    wider ps v k = elim k [ inl d ↦ inr d | inr d ↦ inl (in-v v (any-constant x.level v s.symbols d)) ]
 
-    by-meaning : (ps : List ℕ) (m : Meaning) → IsMeaning s m → AllByRecursion (λ v. ContainsByRecursion v ps ⊎ IsConstantUpTo x.level s.symbols v) (free_of s m) → MeaningIn (λ v. IsConstant s v ⊎ ContainsByRecursion v ps) w.formula m (length s.formula)
-    by-meaning ps (Int f) range free = terms (λ v. IsConstant s v ⊎ ContainsByRecursion v ps) f.terms (over (λ v. ContainsByRecursion v ps ⊎ IsConstantUpTo x.level s.symbols v) (λ v. IsConstant s v ⊎ ContainsByRecursion v ps) (map (λ (t : Term). t.0) f.terms) (wider ps) free)
-    by-meaning ps (Truth i) range free = (range, subst (AllByRecursion (λ v. IsConstant s v ⊎ ContainsByRecursion v ps)) (sym (old-variables s w h i range)) (over (λ v. ContainsByRecursion v ps ⊎ IsConstantUpTo x.level s.symbols v) (λ v. IsConstant s v ⊎ ContainsByRecursion v ps) (variables_of s.formula i) (wider ps) free))
+    by-meaning : (ps : List ℕ) (m : Meaning) → IsMeaning s m → AllByRecursion (λ v. ContainsByRecursion v ps ⊎ IsConstantUpTo x.level s.symbols v) (free_of s m) → MeaningIn (λ v. V v ⊎ ContainsByRecursion v ps) w.formula m (length s.formula)
+    by-meaning ps (Int f) range free = terms (λ v. V v ⊎ ContainsByRecursion v ps) f.terms (over (λ v. ContainsByRecursion v ps ⊎ IsConstantUpTo x.level s.symbols v) (λ v. V v ⊎ ContainsByRecursion v ps) (map (λ (t : Term). t.0) f.terms) (wider ps) free)
+    by-meaning ps (Truth i) range free = (range, subst (AllByRecursion (λ v. V v ⊎ ContainsByRecursion v ps)) (sym (old-variables s w h i range)) (over (λ v. ContainsByRecursion v ps ⊎ IsConstantUpTo x.level s.symbols v) (λ v. V v ⊎ ContainsByRecursion v ps) (variables_of s.formula i) (wider ps) free))
 
-    by-use : (u : Use) → x.stands_for ≡ u → IsUseSound s x.level u → UseIn (IsConstant s) w.formula u (length s.formula)
+    by-use : (u : Use) → x.stands_for ≡ u → IsUseSound s x.level u → UseIn V w.formula u (length s.formula)
     by-use (Constant_of v) e k = in-s v (any-join-left (λ (c : Constant). c.variable ≡ v) (constant_in x x.stands_for) (constants_in xs) (subst (λ u. AnyByRecursion (λ (c : Constant). c.variable ≡ v) (constant_in x u)) (sym e) (inl refl)))
     by-use (Defined ps m) e k = by-meaning ps m k.1 k.2
 
-pub scope-env : (s : State) (w : Work) → IsStep s w → EnvIn (IsConstant s) w.formula (env s) (length s.formula)
-scope-env s w h = record { bound = tt; live = symbols-in s w h s.symbols h.sound.symbols (λ v k. k) }
+pub scope-env : (s : State) (w : Work) (V : ℕ → Type 0) → IsStep s w → ((v : ℕ) → IsConstant s v → V v) → EnvIn V w.formula (env s) (length s.formula)
+scope-env s w V h in-v = record { bound = tt; live = symbols-in s w V h s.symbols h.sound.symbols in-v in-v }
+
+-- the variables of the constants, as a list
+abbrev pub constant_variables : State → List ℕ
+constant_variables s = map (λ (c : Constant). c.variable) (constants_in s.symbols)
+
+pub listed-constant : (v : ℕ) (cs : List Constant) → AnyByRecursion (λ (c : Constant). c.variable ≡ v) cs → ContainsByRecursion v (map (λ (c : Constant). c.variable) cs)
+listed-constant v [] h = absurd h
+listed-constant v (c ∷ cs) h = elim h [ inl e ↦ inl (sym e) | inr k ↦ inr (listed-constant v cs k) ]
+
+pub constant-listed : (v : ℕ) (cs : List Constant) → ContainsByRecursion v (map (λ (c : Constant). c.variable) cs) → AnyByRecursion (λ (c : Constant). c.variable ≡ v) cs
+constant-listed v [] h = absurd h
+constant-listed v (c ∷ cs) h = elim h [ inl e ↦ inl (sym e) | inr k ↦ inr (constant-listed v cs k) ]
+
+pub all-wider : (P R : ℕ → Type 0) (us : List ℕ) → ((v : ℕ) → P v → R v) → AllByRecursion P us → AllByRecursion R us
+all-wider P R [] f k = tt
+all-wider P R (u ∷ us) f k = (f u k.0, all-wider P R us f k.1)
 
 -- what a name stands for is one of these
 pub found-sound : (s : State) (xs : List Symbol) (name : Name) (u : Use) → AllByRecursion (λ (x : Symbol). (x.level ≤ s.depth) × IsUseSound s x.level x.stands_for) xs → find_symbol xs name ≡ Some u → (level : ℕ) × IsUseSound s level u

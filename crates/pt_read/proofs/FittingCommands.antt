@@ -10,26 +10,27 @@ use Rattle.pt_formula.specs.declared.TheConstants.{MAX_TRACKS}
 use Rattle.pt_formula.specs.Formulas.{node_at, variables_of, contains}
 use Rattle.pt_syntax.specs.declared.sexpr.SExpr.{SExpr}
 use Rattle.pt_syntax.specs.declared.kinds.ReadKind.TheVariants.{Sort, Unsupported, Tracks, Redeclared}
-use Rattle.pt_read.specs.declared.command.Meaning.{Meaning}
-use Rattle.pt_read.specs.declared.command.Meaning.TheVariants.{Int, Bool as Truth}
-use Rattle.pt_read.specs.declared.command.Constant.{Constant}
+use Rattle.pt_terms.specs.declared.meaning.Meaning.{Meaning}
+use Rattle.pt_terms.specs.declared.meaning.Meaning.TheVariants.{Int, Bool as Truth}
+use Rattle.pt_terms.specs.declared.meaning.Constant.{Constant}
 use Rattle.pt_read.specs.declared.command.Predicate.{Predicate}
 use Rattle.pt_read.specs.declared.command.CommandKind.{CommandKind}
 use Rattle.pt_read.specs.declared.command.CommandKind.TheVariants as kind
-use Rattle.pt_read.specs.Elaboration.{Work, Elab, give, refuse, ◌>>=◌, require, make, fresh, each}
-use Rattle.pt_read.specs.Scope.{Name, State, Assertion, Use, Constant_of, Defined, find_symbol, is_live, conjunction}
-use Rattle.pt_read.specs.Names.{Env, place_of, symbol_of, is_reserved}
-use Rattle.pt_read.specs.Terms.{truth_of}
-use Rattle.pt_read.specs.Special.{name_of, term, int_sort}
-use Rattle.pt_read.specs.Sound.{AreBelow}
+use Rattle.pt_terms.specs.Elaboration.{Work, Elab, give, refuse, ◌>>=◌, require, make, fresh, each}
+use Rattle.pt_grammar.specs.Words.{Name, is_reserved}
+use Rattle.pt_read.specs.Scope.{State, Assertion, conjunction}
+use Rattle.pt_terms.specs.Names.{Use, Constant_of, Defined, find_symbol, is_live, constants_in, Env}
+use Rattle.pt_grammar.specs.Exprs.{place_of, symbol_of, name_of}
+use Rattle.pt_terms.specs.Theory.{truth_of}
+use Rattle.pt_terms.specs.Terms.{term, int_sort}
+use Rattle.pt_terms.specs.Sound.{AreBelow}
 use Rattle.pt_read.specs.Fits.{FitsKind, IsConstant, IsNewConstant, IsPredicate, ConjunctionOf}
 use Rattle.pt_read.specs.Reader.{with_work}
 use Rattle.pt_read.specs.Commands
-use Rattle.pt_read.proofs.FreeSteps.{Good, IsFront, front-same, front-length}
-use Rattle.pt_read.proofs.FreeNodes.{NodeIn, node-behind}
-use Rattle.pt_read.proofs.FreeTerms.{MeaningIn}
-use Rattle.pt_read.proofs.FreeWholeTerms.{EnvIn, good-term-within}
-use Rattle.pt_read.proofs.Fitting.{then-inv, give-inv, require-inv, make-inv, IsStep, start, old-variables, scope-env, found-sound, constants-below}
+use Rattle.pt_grammar.specs.declared.verbs.Verb.TheVariants as verb
+use Rattle.pt_read.proofs.Prefixes.{front-same, front-length, node-behind}
+use Rattle.pt_read.proofs.Fitting.{then-inv, give-inv, require-inv, make-inv, IsStep, start, old-variables, scope-env, constant_variables, listed-constant, constant-listed, all-wider, found-sound, constants-below}
+use Rattle.pt_terms.specs.Free.{IsFront, NodeIn, MeaningIn, EnvIn}
 
 -- the kind that is given
 pub fits-give : (s : State) (given k : CommandKind) (w w' : Work) → give given w ≡ Ok (k, w') → FitsKind given (with_work w' s) → FitsKind k (with_work w' s)
@@ -130,10 +131,6 @@ joined-inv s p t c w w' e = by-assertions s.assertions refl e
         by-test true d k = absurd cc
         by-test false d k = next a rest same k
 
-good-term : (s : State) (w' : Work) → IsStep s w' → (Q : ℕ → Type 0) (env : Env) (e : SExpr) → Good w'.formula Q (EnvIn (IsConstant s) w'.formula env) (MeaningIn (IsConstant s) w'.formula) (term env e)
-unfolding term
-good-term s w' h Q env e = good-term-within w'.formula h.whole 257 (IsConstant s) Q env e
-
 pub fits-asserted : (s : State) (p : Position) (e : SExpr) (k : CommandKind) (w' : Work) → IsStep s w' → Commands.asserted s p e (start s) ≡ Ok (k, w') → FitsKind k (with_work w' s)
 fits-asserted s p e k w' h eq =
     let one = then-inv (term (Commands.env s) e) (λ m. truth_of (place_of e) m >>= λ t. Commands.conjunction_with s p t >>= λ c. give (kind.Assert t c)) (start s) w' k eq in
@@ -143,15 +140,15 @@ fits-asserted s p e k w' h eq =
     let joined = joined-inv s p two.0 three.0 two.1 three.1 three.2 in
     let last = give-inv (kind.Assert two.0 three.0) k three.1 w' three.3 in
     let front : IsFront one.1.formula w'.formula = subst (λ (u : Work). IsFront one.1.formula u.formula) (sym last.1) (subst (λ (u : Work). IsFront u.formula three.1.formula) truth.1 joined.front) in
-    let good = (good-term s w' h (λ v. ⊤) (Commands.env s) e) (start s) one.1 one.0 one.2 in
-    let known = good.1 (scope-env s w' h) front (λ v le lt. tt) (λ i v a lt at. tt) in
-    let node : NodeIn (IsConstant s) w'.formula two.0 (length one.1.formula) = subst (λ m. MeaningIn (IsConstant s) w'.formula m (length one.1.formula)) truth.0 known.1 in
+    let seen : List ℕ = constant_variables s in
+    let known = (h.terms (Commands.env s) e (start s) one.1 one.0 one.2).1 seen 0 0 (scope-env s w' (λ v. ContainsByRecursion v seen) h (λ v k. listed-constant v (constants_in s.symbols) k)) front (omega arith) (λ i v a lt at. inr (omega arith)) in
+    let node : NodeIn (λ v. ContainsByRecursion v seen) w'.formula two.0 (length one.1.formula) = subst (λ m. MeaningIn (λ v. ContainsByRecursion v seen) w'.formula m (length one.1.formula)) truth.0 known.1 in
     let size : length one.1.formula ≤ length w'.formula = front-length one.1.formula w'.formula front in
     subst (λ x. FitsKind x (with_work w' s)) last.0
     (record {
       term = omega (arith, node.0, size);
       node = let here : three.0 < length three.1.formula = joined.range (omega (arith, node.0, ap (λ (u : Work). length u.formula) truth.1)) in omega (arith, here, ap (λ (u : Work). length u.formula) last.1);
-      free = node.1;
+      free = all-wider (λ v. ContainsByRecursion v seen) (IsConstant s) (variables_of w'.formula two.0) (λ v k. constant-listed v (constants_in s.symbols) k) node.1;
       conjunction = subst (λ (u : Work). ConjunctionOf (with_work u s) s.assertions two.0 three.0) (sym last.1) joined.join;
     })
 
@@ -275,7 +272,7 @@ each-count {A} {B} f (x ∷ xs) ys w w' e =
     let last = give-inv (first.0 ∷ second.0) ys second.1 w' second.3 in
     ap length (sym last.0) ∙ ap suc (each-count f xs second.0 first.1 second.1 second.2)
 
-pub fits-member : (s : State) (w' : Work) → IsStep s w' → (p : Position) (a : SExpr) (values : List SExpr) (k : CommandKind) → Commands.understood s p Commands.Set_member (a ∷ values) (start s) ≡ Ok (k, w') → FitsKind k (with_work w' s)
+pub fits-member : (s : State) (w' : Work) → IsStep s w' → (p : Position) (a : SExpr) (values : List SExpr) (k : CommandKind) → Commands.understood s p verb.SetMember (a ∷ values) (start s) ≡ Ok (k, w') → FitsKind k (with_work w' s)
 fits-member s w' h p a values k e =
     let one = then-inv (Commands.predicate s a) (λ x. require (length values == length x.parameters) Sort p >>= λ _. each Commands.integer values >>= λ zs. give (kind.SetMember x zs)) (start s) w' k e in
     let known = predicate-inv s a one.0 w' h (start s) one.1 refl one.2 in
@@ -288,7 +285,7 @@ fits-member s w' h p a values k e =
     equal : (m n : ℕ) → (m == n) ≡ true → m ≡ n
     equal m n e = grind (arith, nat_tests)
 
-pub fits-list : (s : State) (w' : Work) → IsStep s w' → (p : Position) (a n : SExpr) (more : List SExpr) (k : CommandKind) → Commands.understood s p Commands.Set_list (a ∷ n ∷ more) (start s) ≡ Ok (k, w') → FitsKind k (with_work w' s)
+pub fits-list : (s : State) (w' : Work) → IsStep s w' → (p : Position) (a n : SExpr) (more : List SExpr) (k : CommandKind) → Commands.understood s p verb.SetList (a ∷ n ∷ more) (start s) ≡ Ok (k, w') → FitsKind k (with_work w' s)
 fits-list s w' h p a n more k e =
     let one = then-inv (Commands.predicate s a) (λ x. Commands.number n >>= λ m. require (nat_le m 1000) Unsupported (place_of n) >>= λ _. give (kind.SetList x m)) (start s) w' k e in
     let known = predicate-inv s a one.0 w' h (start s) one.1 refl one.2 in

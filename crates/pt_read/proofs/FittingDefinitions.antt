@@ -10,38 +10,38 @@ use Rattle.pt_formula.specs.Forms.{Term, IsIncreasing}
 use Rattle.pt_formula.specs.Formulas.{node_at, entry_node, variables_of}
 use Rattle.pt_syntax.specs.declared.sexpr.SExpr.{SExpr}
 use Rattle.pt_syntax.specs.declared.kinds.ReadKind.TheVariants.{Redeclared, Unsupported}
-use Rattle.pt_read.specs.declared.command.Meaning.{Meaning}
-use Rattle.pt_read.specs.declared.command.Meaning.TheVariants.{Int, Bool as Truth}
+use Rattle.pt_terms.specs.declared.meaning.Meaning.{Meaning}
+use Rattle.pt_terms.specs.declared.meaning.Meaning.TheVariants.{Int, Bool as Truth}
 use Rattle.pt_read.specs.declared.command.CommandKind.{CommandKind}
 use Rattle.pt_read.specs.declared.command.CommandKind.TheVariants as kind
-use Rattle.pt_read.specs.Elaboration.{Work, Elab, give, refuse, ◌>>=◌, require, fresh}
-use Rattle.pt_read.specs.Scope.{Name, State, is_live}
-use Rattle.pt_read.specs.Names.{place_of, symbol_of, items_of, is_reserved, is_among}
-use Rattle.pt_read.specs.Special
-use Rattle.pt_read.specs.Special.{name_of, items_or_none, term, int_sort, as_bound}
-use Rattle.pt_read.specs.Sound.{IsMeaningIn}
+use Rattle.pt_terms.specs.Elaboration.{Work, Elab, give, refuse, ◌>>=◌, require, fresh}
+use Rattle.pt_grammar.specs.Words.{Name, is_reserved, is_among}
+use Rattle.pt_read.specs.Scope.{State}
+use Rattle.pt_terms.specs.Names.{is_live, constants_in}
+use Rattle.pt_grammar.specs.Exprs.{place_of, symbol_of, items_of, name_of, items_or_none}
+use Rattle.pt_terms.specs.Terms
+use Rattle.pt_terms.specs.Terms.{term, int_sort, as_bound}
+use Rattle.pt_terms.specs.Sound.{IsMeaningIn}
 use Rattle.pt_read.specs.Context.{IsKindIn}
 use Rattle.pt_read.specs.Fits.{FitsKind, IsConstant, IsMeaning, IsUnbound, free_of}
 use Rattle.pt_read.specs.Reader.{with_work}
 use Rattle.pt_read.specs.Commands
-use Rattle.pt_read.proofs.FreeSteps.{Nodes, IsFront, front-same, BindsIn, Good}
-use Rattle.pt_read.proofs.FreeNodes.{node-front, within-or-none}
-use Rattle.pt_read.proofs.FreeTerms.{MeaningIn}
-use Rattle.pt_read.proofs.FreeWholeTerms.{EnvIn, BindingsIn, env-wider, good-term-within}
-use Rattle.pt_read.proofs.Fitting.{then-inv, give-inv, require-inv, IsStep, start, scope-env}
+use Rattle.pt_read.proofs.Prefixes.{front-same, node-front, within-or-none}
+use Rattle.pt_read.proofs.Fitting.{then-inv, give-inv, require-inv, IsStep, start, scope-env, constant_variables, listed-constant, constant-listed, any-join-left, any-join-right, any-split}
 use Rattle.pt_read.proofs.FittingCommands.{new-name-inv, fresh-inv}
+use Rattle.pt_terms.specs.Free.{Nodes, IsFront, BindsIn, MeaningIn, EnvIn, Outside}
 
 -- ---- parameters
 
-variable-inv : (taken : List Name) (e : SExpr) (x : Name × ℕ) (w w' : Work) → Special.variable taken e w ≡ Ok (x, w') → (x.1 ≡ w.given) × (w'.formula ≡ w.formula) × (w'.given ≡ w.given + 1)
+variable-inv : (taken : List Name) (e : SExpr) (x : Name × ℕ) (w w' : Work) → Terms.variable taken e w ≡ Ok (x, w') → (x.1 ≡ w.given) × (w'.formula ≡ w.formula) × (w'.given ≡ w.given + 1)
 variable-inv taken e x w w' h = by-items (items_of e) h
   where
     one : SExpr → SExpr → Elab (Name × ℕ)
-    one s sort = Special.bindable taken s >>= λ name. int_sort sort >>= λ _. fresh >>= λ v. give (name, v)
+    one s sort = Terms.bindable taken s >>= λ name. int_sort sort >>= λ _. fresh >>= λ v. give (name, v)
 
     pair : (s sort : SExpr) → one s sort w ≡ Ok (x, w') → (x.1 ≡ w.given) × (w'.formula ≡ w.formula) × (w'.given ≡ w.given + 1)
     pair s sort k =
-        let first = then-inv (Special.bindable taken s) (λ name. int_sort sort >>= λ _. fresh >>= λ v. give (name, v)) w w' x k in
+        let first = then-inv (Terms.bindable taken s) (λ name. int_sort sort >>= λ _. fresh >>= λ v. give (name, v)) w w' x k in
         let named = then-inv (require (not (is_reserved (name_of (symbol_of s)) || is_among (name_of (symbol_of s)) taken)) Redeclared (place_of s)) (λ _. give (name_of (symbol_of s))) w first.1 first.0 first.2 in
         let test = require-inv (not (is_reserved (name_of (symbol_of s)) || is_among (name_of (symbol_of s)) taken)) Redeclared (place_of s) named.0 w named.1 named.2 in
         let given = give-inv (name_of (symbol_of s)) first.0 named.1 first.1 named.3 in
@@ -56,7 +56,7 @@ variable-inv taken e x w w' h = by-items (items_of e) h
           ap (λ (u : Work). u.given) last.1 ∙ number.2 ∙ ap (λ (u : Work). u.given + 1) before,
         )
 
-    by-items : (items : Option (List SExpr)) → Special.with_pair items (place_of e) one w ≡ Ok (x, w') → (x.1 ≡ w.given) × (w'.formula ≡ w.formula) × (w'.given ≡ w.given + 1)
+    by-items : (items : Option (List SExpr)) → Terms.with_pair items (place_of e) one w ≡ Ok (x, w') → (x.1 ≡ w.given) × (w'.formula ≡ w.formula) × (w'.given ≡ w.given + 1)
     by-items None k = absurd cc
     by-items (Some []) k = absurd cc
     by-items (Some (a ∷ [])) k = absurd cc
@@ -77,7 +77,7 @@ parameters-inv low done [] ps w w' h e =
     let last = give-inv done ps w w' e in
     (subst (λ (u : Work). Down low u.given ps) (sym last.1) (subst (Down low w.given) last.0 h), ap (λ (u : Work). u.formula) last.1)
 parameters-inv low done (e ∷ es) ps w w' h k =
-    let one = then-inv (Special.variable (map (λ x. x.0) done) e) (λ x. Commands.distinct_variables (x ∷ done) es) w w' ps k in
+    let one = then-inv (Terms.variable (map (λ x. x.0) done) e) (λ x. Commands.distinct_variables (x ∷ done) es) w w' ps k in
     let new = variable-inv (map (λ x. x.0) done) e one.0 w one.1 one.2 in
     let rest = parameters-inv low (one.0 ∷ done) es ps one.1 w' (omega (arith, new.0, new.2), subst (λ g. Down low g done) (sym new.0) h) one.3 in
     (rest.0, rest.1 ∙ new.1)
@@ -136,14 +136,26 @@ result-sort-inv sort b w w' e = by-name (bytes_eq (name_of (symbol_of sort)) (co
     by-name false true k = (give-inv false b w w' k).1
     by-name false false k = absurd cc
 
--- V: the constants and the parameters
-abbrev Seen : State → List (Name × ℕ) → ℕ → Type 0
-Seen s ps v = IsConstant s v ⊎ ContainsByRecursion v (map (λ (x : Name × ℕ). x.1) ps)
+-- the constants and the parameters
+abbrev seen_by : State → List (Name × ℕ) → List ℕ
+seen_by s ps = map (λ (x : Name × ℕ). x.1) ps ++ constant_variables s
 
-parameters-bound : (s : State) (F : Nodes) (ps : List (Name × ℕ)) (n : ℕ) → BindingsIn (Seen s ps) F (map as_bound ps) n
-parameters-bound s F ps n = over ps (λ v k. inr k)
+abbrev Seen : State → List (Name × ℕ) → ℕ → Type 0
+Seen s ps v = ContainsByRecursion v (seen_by s ps)
+
+parameter-seen : (s : State) (ps : List (Name × ℕ)) (v : ℕ) → ContainsByRecursion v (map (λ (x : Name × ℕ). x.1) ps) → Seen s ps v
+parameter-seen s ps v h = any-join-left (λ u. v ≡ u) (map (λ (x : Name × ℕ). x.1) ps) (constant_variables s) h
+
+constant-seen : (s : State) (ps : List (Name × ℕ)) (v : ℕ) → IsConstant s v → Seen s ps v
+constant-seen s ps v h = any-join-right (λ u. v ≡ u) (map (λ (x : Name × ℕ). x.1) ps) (constant_variables s) (listed-constant v (constants_in s.symbols) h)
+
+seen-is : (s : State) (ps : List (Name × ℕ)) (v : ℕ) → Seen s ps v → ContainsByRecursion v (map (λ (x : Name × ℕ). x.1) ps) ⊎ IsConstant s v
+seen-is s ps v h = elim (any-split (λ u. v ≡ u) (map (λ (x : Name × ℕ). x.1) ps) (constant_variables s) h) [ inl k ↦ inl k | inr k ↦ inr (constant-listed v (constants_in s.symbols) k) ]
+
+parameters-bound : (s : State) (F : Nodes) (ps : List (Name × ℕ)) (n : ℕ) → AllByRecursion (λ (b : Name × Meaning). MeaningIn (Seen s ps) F b.1 n) (map as_bound ps)
+parameters-bound s F ps n = over ps (λ v k. parameter-seen s ps v k)
   where
-    over : (xs : List (Name × ℕ)) → ((v : ℕ) → ContainsByRecursion v (map (λ (x : Name × ℕ). x.1) xs) → Seen s ps v) → BindingsIn (Seen s ps) F (map as_bound xs) n
+    over : (xs : List (Name × ℕ)) → ((v : ℕ) → ContainsByRecursion v (map (λ (x : Name × ℕ). x.1) xs) → Seen s ps v) → AllByRecursion (λ (b : Name × Meaning). MeaningIn (Seen s ps) F b.1 n) (map as_bound xs)
     over [] h = tt
     over (x ∷ xs) h = ((h x.1 (inl refl), tt), over xs (λ v k. h v (inr k)))
 
@@ -175,10 +187,6 @@ ranged : (s : State) (w : Work) (m : Meaning) → IsMeaningIn w m → IsMeaning 
 ranged s w (Int f) h = h.0
 ranged s w (Truth i) h = h
 
-body-good : (s : State) (w' : Work) → IsStep s w' → (ps : List (Name × ℕ)) (high : ℕ) (e : SExpr) → Good w'.formula (λ v. (v < s.given) ⊎ (high ≤ v)) (EnvIn (Seen s ps) w'.formula (record { bound = map as_bound ps; live = s.symbols })) (MeaningIn (Seen s ps) w'.formula) (term (record { bound = map as_bound ps; live = s.symbols }) e)
-unfolding term
-body-good s w' h ps high e = good-term-within w'.formula h.whole 257 (Seen s ps) (λ v. (v < s.given) ⊎ (high ≤ v)) (record { bound = map as_bound ps; live = s.symbols }) e
-
 pub fits-defined : (s : State) (name parameters sort body : SExpr) (k : CommandKind) (w' : Work) → IsStep s w' → IsKindIn w' k → Commands.defined s name parameters sort body (start s) ≡ Ok (k, w') → FitsKind k (with_work w' s)
 fits-defined s name parameters sort body k w' h range eq =
     let es : List SExpr = items_or_none (items_of parameters) in
@@ -201,13 +209,13 @@ fits-defined s name parameters sort body k w' h range eq =
         → term (record { bound = map as_bound ps; live = s.symbols }) body w2 ≡ Ok (m, w3) → m ≡ n → w3 ≡ w' → kind.Define (record { name = x; parameters = reverse (map (λ p. p.1) ps); meaning = n }) ≡ k → FitsKind k (with_work w' s)
     finish x ps w1 w2 m w3 n fresh_name ordered same nodes step is_n ends is_k =
         let vs : List ℕ = reverse (map (λ (y : Name × ℕ). y.1) ps) in
-        let good = (body-good s w' h ps w1.given body) w2 w3 m step in
+        let good = h.terms (record { bound = map as_bound ps; live = s.symbols }) body w2 w3 m step in
         let front : IsFront w3.formula w'.formula = subst (λ (u : Work). IsFront w3.formula u.formula) ends (front-same w3.formula) in
         let here : w2.formula ≡ s.formula = ap (λ (u : Work). u.formula) same ∙ nodes in
         let size : length w2.formula ≡ length s.formula = ap length here in
-        let env : EnvIn (Seen s ps) w'.formula (record { bound = map as_bound ps; live = s.symbols }) (length w2.formula) = subst (EnvIn (Seen s ps) w'.formula (record { bound = map as_bound ps; live = s.symbols })) (sym size) (record { bound = parameters-bound s w'.formula ps (length s.formula); live = (env-wider (IsConstant s) (Seen s ps) w'.formula (Commands.env s) (length s.formula) (λ v d. inl d) (scope-env s w' h)).live }) in
+        let env : EnvIn (Seen s ps) w'.formula (record { bound = map as_bound ps; live = s.symbols }) (length w2.formula) = subst (EnvIn (Seen s ps) w'.formula (record { bound = map as_bound ps; live = s.symbols })) (sym size) (record { bound = parameters-bound s w'.formula ps (length s.formula); live = (scope-env s w' (Seen s ps) h (constant-seen s ps)).live }) in
         let old : BindsIn (λ v. (v < s.given) ⊎ (w1.given ≤ v)) w'.formula (length w2.formula) = λ i v a lt at. inl (h.below.bound i v a (sym (node-front s.formula w'.formula i h.front (omega (arith, size, lt))) ∙ at)) in
-        let known = good.1 env front (λ v le lt. inr (omega (arith, le, ap (λ (u : Work). u.given) same))) old in
+        let known = good.1 (seen_by s ps) s.given w1.given env front (omega (arith, ap (λ (u : Work). u.given) same)) old in
         let final : w1.given ≤ w'.given = omega (arith, good.0.given, ap (λ (u : Work). u.given) same, ap (λ (u : Work). u.given) ends) in
         let bound : BindsIn (λ v. (v < s.given) ⊎ (w1.given ≤ v)) w'.formula (length w'.formula) = subst (λ (u : Work). BindsIn (λ v. (v < s.given) ⊎ (w1.given ≤ v)) w'.formula (length u.formula)) ends known.0 in
         let range' : IsMeaningIn w' n = subst (IsKindIn w') (sym is_k) range in
@@ -217,5 +225,5 @@ fits-defined s name parameters sort body k w' h range eq =
           parameters = (ordered.increasing, all-less w1.given w'.given vs final ordered.below);
           unbound = all-unbound s w' s.given w1.given bound vs ordered.from ordered.below;
           meaning = ranged s w' n range';
-          free = free-in s w' (Seen s ps) (λ v. ContainsByRecursion v vs ⊎ IsConstant (with_work w' s) v) (λ v d. elim d [ inl c ↦ inr c | inr c ↦ inl (ordered.all v c) ]) n (length w3.formula) (subst (λ z. MeaningIn (Seen s ps) w'.formula z (length w3.formula)) is_n known.1);
+          free = free-in s w' (Seen s ps) (λ v. ContainsByRecursion v vs ⊎ IsConstant (with_work w' s) v) (λ v d. elim (seen-is s ps v d) [ inl c ↦ inl (ordered.all v c) | inr c ↦ inr c ]) n (length w3.formula) (subst (λ z. MeaningIn (Seen s ps) w'.formula z (length w3.formula)) is_n known.1);
         })

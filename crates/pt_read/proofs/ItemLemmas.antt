@@ -2,23 +2,16 @@
 use Rattle.std.proofs.Common.{◌≡◌, ℕ, zero, suc, ◌<◌, ◌||◌, true, false, if◌then◌else◌, List, [], ◌∷◌, map, drop, length, Option, Some, None, IfSome, option_map, refl, ap, sym, subst, ◌∙◌, ◌≤◌, get_or, arith}
 use Rattle.std.specs.Prelude.{bytes_eq, is_some}
 use Rattle.std.specs.List.{AllByRecursion}
-use Rattle.pt_read.specs.Elaboration.{Work}
-use Rattle.pt_read.specs.Environment.{outermost}
-use Rattle.pt_read.specs.Scope.{Name, Use, Symbol, State, Assertion, find_symbol, is_live}
-use Rattle.pt_read.specs.Sound.{IsUseIn, IsEnvIn}
+use Rattle.pt_terms.specs.Elaboration.{Work}
+use Rattle.pt_terms.specs.Environment.{outermost}
+use Rattle.pt_grammar.specs.Words.{Name}
+use Rattle.pt_terms.specs.Names.{Use, Symbol, find_symbol, is_live, Env}
+use Rattle.pt_read.specs.Scope.{State, Assertion}
+use Rattle.pt_terms.specs.Sound.{IsUseIn, IsEnvIn}
 use Rattle.pt_read.specs.Context.{IsStateIn}
-use Rattle.pt_read.specs.Gives.{Grows}
-use Rattle.pt_read.proofs.Ranges.{env_more, node_more}
+use Rattle.pt_terms.specs.Gives.{Grows}
 use Rattle.pt_formula.specs.declared.node.Position.{Position}
 use Rattle.pt_syntax.specs.declared.sexpr.SExpr.{SExpr}
-use Rattle.pt_read.specs.Commands.{Item_form, More, items_fault}
-
--- without an item for a form that is left, the fault is at the command
-pub missing : {X : Type 0} (f : X → Item_form) (p : Position) (more : More) (forms : List X) (i : ℕ) (items : List SExpr) (all : Option Position) → i < length forms → length items < 1 → items_fault p (map f (drop i forms)) more items ≡ all → Some p ≡ all
-missing f p more [] i items all within none told = absurd (omega arith)
-missing f p more (form ∷ forms) zero [] all within none told = told
-missing f p more (form ∷ forms) zero (e ∷ es) all within none told = absurd (omega arith)
-missing f p more (form ∷ forms) (suc i) items all within none told = missing f p more forms i items all (omega arith) none told
 
 -- a name is live exactly where it stands for something
 pub is_live_found : (symbols : List Symbol) (name : Name) → is_some (find_symbol symbols name) ≡ is_live symbols name
@@ -39,17 +32,24 @@ shown_in w show (Some x) meant same h = subst (λ u. IfSome u (IsUseIn w)) (sym 
 pub outermost_in : (w : Work) (s : State) → IsStateIn w s → IsEnvIn w (outermost s.symbols)
 outermost_in w s h = record { bound = tt {0}; live = h.symbols }
 
+pub node_more : (v w : Work) (i : ℕ) → Grows v w → i < length v.formula → i < length w.formula
+node_more v w i g h = omega arith
+
 conjunctions_more : (v w : Work) (assertions : List Assertion) → Grows v w → AllByRecursion (λ (a : Assertion). a.conjunction < length v.formula) assertions → AllByRecursion (λ (a : Assertion). a.conjunction < length w.formula) assertions
 conjunctions_more v w [] g h = tt
 conjunctions_more v w (a ∷ assertions) g h = (node_more v w a.conjunction g h.0, conjunctions_more v w assertions g h.1)
 
-pub state_more : (v w : Work) (s : State) → Grows v w → IsStateIn v s → IsStateIn w s
-state_more v w s g h = record {
-  symbols = (env_more v w (outermost s.symbols) g (outermost_in v s h)).live;
+-- what names stand for stays in range
+abbrev pub NamesStay : Type 0
+NamesStay = (v w : Work) (env : Env) → Grows v w → IsEnvIn v env → IsEnvIn w env
+
+pub state_more : NamesStay → (v w : Work) (s : State) → Grows v w → IsStateIn v s → IsStateIn w s
+state_more stay v w s g h = record {
+  symbols = (stay v w (outermost s.symbols) g (outermost_in v s h)).live;
   conjunctions = conjunctions_more v w s.assertions g h.conjunctions;
 }
 
-pub ruleset states = (state_more, outermost_in)
+pub ruleset states = (outermost_in, node_more)
 
 -- found exactly where it is live
 pub live_where : {X : Type 0} (show : X → Use) (found : Option X) (symbols : List Symbol) (name : Name) → option_map show found ≡ find_symbol symbols name → is_some found ≡ is_live symbols name

@@ -2,9 +2,7 @@
 use Rattle.std.proofs.Common.{◌≡◌, ℕ, zero, suc, ◌+◌, ◌<◌, ◌≤◌, nat_le, Bool, true, false, cond, List, [], ◌∷◌, ◌++◌, length, map, filter, take, slice_get, Some, refl, sym, ap, subst, ◌∙◌, arith, length-append}
 use Rattle.std.proofs.lemmas.Bool.Decides.{nat_tests}
 use Rattle.std.specs.List.{AllByRecursion}
-use Rattle.pt_read.specs.declared.command.Constant.{Constant}
-use Rattle.pt_read.specs.Scope.{Symbol, Assertion, Use, Constant_of, Defined, constant_in, constants_in, last_conjunction}
-use Rattle.pt_read.specs.Symbols.{constant_count}
+use Rattle.pt_read.specs.Scope.{Assertion, last_conjunction}
 use Rattle.pt_read.specs.declared.scope.Assertion as kept
 use Rattle.pt_read.specs.Kept.{AreOrdered, shown_assertion}
 use Rattle.pt_read.specs.Lasting.{AreInOrder}
@@ -44,39 +42,6 @@ front-step (y ∷ xs) zero level x e high =
     let over : nat_le y.level level ≡ false = le-false (rw same high) in
     rw over refl
 front-step (y ∷ xs) (suc i) level x e high = ap (λ us. cond (nat_le y.level level) (y ∷ us) us) (front-step xs i level x e high)
-
--- the constants of a front are a front of the constants
-constant-length : (s : Symbol) → length (constant_in s s.stands_for) ≡ constant_count s.stands_for
-constant-length s = by-use s.stands_for
-  where
-    by-use : (u : Use) → length (constant_in s u) ≡ constant_count u
-    by-use (Constant_of v) = refl
-    by-use (Defined ps m) = refl
-
-take-join : {X : Type 0} (xs ys : List X) (m n : ℕ) → m ≡ length xs + n → take m (xs ++ ys) ≡ xs ++ take n ys
-take-join [] ys m n e = let same : m ≡ n = omega arith in ap (λ k. take k ys) same
-take-join (x ∷ xs) ys zero n e = absurd (omega arith)
-take-join (x ∷ xs) ys (suc m) n e = let same : m ≡ length xs + n = omega arith in ap (λ zs. x ∷ zs) (take-join xs ys m n same)
-
-pub constants-front : (k : ℕ) (ss : List Symbol) → constants_in (take k ss) ≡ take (length (constants_in (take k ss))) (constants_in ss)
-constants-front zero ss = refl
-constants-front (suc k) [] = refl
-constants-front (suc k) (s ∷ ss) =
-    ap (λ cs. constant_in s s.stands_for ++ cs) (constants-front k ss)
-    ∙ sym (take-join (constant_in s s.stands_for) (constants_in ss) (length (constant_in s s.stands_for ++ constants_in (take k ss))) (length (constants_in (take k ss))) (length-append (constant_in s s.stands_for) (constants_in (take k ss))))
-
-pub constants-step : (ss : List Symbol) (i : ℕ) (s : Symbol) → slice_get ss i ≡ Some s → length (constants_in (take (suc i) ss)) ≡ length (constants_in (take i ss)) + constant_count s.stands_for
-constants-step [] i s e = absurd cc
-constants-step (t ∷ ss) zero s e =
-    let same : t ≡ s = cc in
-    ap (λ cs. length cs) (append-none (constant_in t t.stands_for)) ∙ constant-length t ∙ ap (λ (x : Symbol). constant_count x.stands_for) same ∙ omega arith
-  where
-    append-none : (cs : List Constant) → cs ++ [] ≡ cs
-    append-none [] = refl
-    append-none (c ∷ cs) = ap (λ ds. c ∷ ds) (append-none cs)
-constants-step (t ∷ ss) (suc i) s e =
-    let rest = constants-step ss i s e in
-    omega (arith, rest, length-append (constant_in t t.stands_for) (constants_in (take (suc i) ss)), length-append (constant_in t t.stands_for) (constants_in (take i ss)))
 
 -- kept assertions and shown ones
 pub ordered-kept : (xs : List kept.Assertion) → AreInOrder (map shown_assertion xs) → AreOrdered xs

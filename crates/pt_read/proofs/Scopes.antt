@@ -9,18 +9,21 @@ use Rattle.pt_syntax.specs.declared.sexpr.SExpr.{SExpr}
 use Rattle.pt_syntax.specs.declared.kinds.ReadRefusal.{ReadRefusal}
 use Rattle.pt_read.specs.declared.command.Command.{Command}
 use Rattle.pt_read.specs.declared.command.CommandKind.TheVariants as kind
-use Rattle.pt_read.specs.Elaboration.{Work, Elab, give, follow, make}
-use Rattle.pt_read.specs.Scope.{State, Symbol, Assertion, conjunction, last_conjunction}
-use Rattle.pt_read.specs.Names.{place_of, symbol_of}
-use Rattle.pt_read.specs.Terms.{truth_of}
-use Rattle.pt_read.specs.Commands as commands
-use Rattle.pt_read.specs.Commands.{Verb, Row, understood, by_row, named, list_command, items_fault, row_in, table, conjunction_with, asserted, env}
-use Rattle.pt_read.specs.Special.{unless_faulty, term}
-use Rattle.pt_read.specs.Context.{SeesTheSame, IsStateIn, state_of}
-use Rattle.pt_read.specs.Standing.{LastIs, Stands, commanded}
-use Rattle.pt_read.specs.Environment.{outermost}
-use Rattle.pt_read.specs.Gives.{Gives, Fails}
-use Rattle.pt_read.specs.Sound.{IsEnvIn}
+use Rattle.pt_terms.specs.Elaboration.{Work, Elab, give, follow, make}
+use Rattle.pt_read.specs.Scope.{State, Assertion, conjunction, last_conjunction}
+use Rattle.pt_terms.specs.Names.{Symbol}
+use Rattle.pt_grammar.specs.Exprs.{place_of, symbol_of}
+use Rattle.pt_terms.specs.Theory.{truth_of}
+use Rattle.pt_grammar.specs.declared.verbs.Verb.TheVariants as verb
+use Rattle.pt_grammar.specs.declared.verbs.Verb.{Verb}
+use Rattle.pt_grammar.specs.Verbs.{Row, row_in, table}
+use Rattle.pt_read.specs.Commands.{understood, by_row, named, list_command, conjunction_with, asserted, env}
+use Rattle.pt_grammar.specs.ItemForms.{items_fault}
+use Rattle.pt_terms.specs.Terms.{unless_faulty, term}
+use Rattle.pt_read.specs.Context.{SeesTheSame, IsStateIn, state_of, LastIs, Stands, commanded}
+use Rattle.pt_terms.specs.Environment.{outermost}
+use Rattle.pt_terms.specs.Gives.{Gives, Fails}
+use Rattle.pt_terms.specs.Sound.{IsEnvIn}
 
 follow_same : {A B : Type 0} (r : Result (A × Work) ReadRefusal) (f g : A → Elab B) → ((a : A) (w : Work) → f a w ≡ g a w) → follow r f ≡ follow r g
 follow_same (Ok r) f g e = e r.0 r.1
@@ -38,52 +41,52 @@ module _ (f g : List (Node × Position)) (given given' depth depth' : ℕ) (symb
   joined p i w none c = ap (λ b. (if b then give i else make (node.And (conjunction s) i) p) w) none ∙ ap (λ k. (if length later == 0 then give i else make (node.And k i) p) w) c
 
   same_understood : (p : Position) (verb : Verb) (items : List SExpr) (w : Work) → (length earlier == 0) ≡ (length later == 0) → conjunction s ≡ conjunction t → understood s p verb items w ≡ understood t p verb items w
-  same_understood p commands.Set_logic [] w none same = refl
-  same_understood p commands.Set_logic (a ∷ rest) w none same = refl
-  same_understood p commands.Set_info items w none same = refl
-  same_understood p commands.Set_option [] w none same = refl
-  same_understood p commands.Set_option (a ∷ rest) w none same = refl
-  same_understood p commands.Declare_const [] w none same = refl
-  same_understood p commands.Declare_const (a ∷ []) w none same = refl
-  same_understood p commands.Declare_const (a ∷ b ∷ rest) w none same = refl
-  same_understood p commands.Declare_fun [] w none same = refl
-  same_understood p commands.Declare_fun (a ∷ []) w none same = refl
-  same_understood p commands.Declare_fun (a ∷ b ∷ []) w none same = refl
-  same_understood p commands.Declare_fun (a ∷ b ∷ c ∷ rest) w none same = refl
-  same_understood p commands.Define_fun [] w none same = refl
-  same_understood p commands.Define_fun (a ∷ []) w none same = refl
-  same_understood p commands.Define_fun (a ∷ b ∷ []) w none same = refl
-  same_understood p commands.Define_fun (a ∷ b ∷ c ∷ []) w none same = refl
-  same_understood p commands.Define_fun (a ∷ b ∷ c ∷ d ∷ rest) w none same = refl
-  same_understood p commands.Check_sat items w none same = refl
-  same_understood p commands.Get_value [] w none same = refl
-  same_understood p commands.Get_value (a ∷ rest) w none same = refl
-  same_understood p commands.Get_model items w none same = refl
-  same_understood p commands.Push items w none same = refl
-  same_understood p commands.Pop items w none same = refl
-  same_understood p commands.Reset items w none same = refl
-  same_understood p commands.Echo [] w none same = refl
-  same_understood p commands.Echo (a ∷ rest) w none same = refl
-  same_understood p commands.Exit items w none same = refl
-  same_understood p commands.Set_equal [] w none same = refl
-  same_understood p commands.Set_equal (a ∷ []) w none same = refl
-  same_understood p commands.Set_equal (a ∷ b ∷ rest) w none same = refl
-  same_understood p commands.Set_subset [] w none same = refl
-  same_understood p commands.Set_subset (a ∷ []) w none same = refl
-  same_understood p commands.Set_subset (a ∷ b ∷ rest) w none same = refl
-  same_understood p commands.Set_empty [] w none same = refl
-  same_understood p commands.Set_empty (a ∷ rest) w none same = refl
-  same_understood p commands.Set_finite [] w none same = refl
-  same_understood p commands.Set_finite (a ∷ rest) w none same = refl
-  same_understood p commands.Set_states [] w none same = refl
-  same_understood p commands.Set_states (a ∷ rest) w none same = refl
-  same_understood p commands.Set_member [] w none same = refl
-  same_understood p commands.Set_member (a ∷ rest) w none same = refl
-  same_understood p commands.Set_list [] w none same = refl
-  same_understood p commands.Set_list (a ∷ []) w none same = refl
-  same_understood p commands.Set_list (a ∷ b ∷ rest) w none same = refl
-  same_understood p commands.Assert [] w none same = refl
-  same_understood p commands.Assert (e ∷ rest) w none same =
+  same_understood p verb.SetLogic [] w none same = refl
+  same_understood p verb.SetLogic (a ∷ rest) w none same = refl
+  same_understood p verb.SetInfo items w none same = refl
+  same_understood p verb.SetOption [] w none same = refl
+  same_understood p verb.SetOption (a ∷ rest) w none same = refl
+  same_understood p verb.DeclareConst [] w none same = refl
+  same_understood p verb.DeclareConst (a ∷ []) w none same = refl
+  same_understood p verb.DeclareConst (a ∷ b ∷ rest) w none same = refl
+  same_understood p verb.DeclareFun [] w none same = refl
+  same_understood p verb.DeclareFun (a ∷ []) w none same = refl
+  same_understood p verb.DeclareFun (a ∷ b ∷ []) w none same = refl
+  same_understood p verb.DeclareFun (a ∷ b ∷ c ∷ rest) w none same = refl
+  same_understood p verb.DefineFun [] w none same = refl
+  same_understood p verb.DefineFun (a ∷ []) w none same = refl
+  same_understood p verb.DefineFun (a ∷ b ∷ []) w none same = refl
+  same_understood p verb.DefineFun (a ∷ b ∷ c ∷ []) w none same = refl
+  same_understood p verb.DefineFun (a ∷ b ∷ c ∷ d ∷ rest) w none same = refl
+  same_understood p verb.CheckSat items w none same = refl
+  same_understood p verb.GetValue [] w none same = refl
+  same_understood p verb.GetValue (a ∷ rest) w none same = refl
+  same_understood p verb.GetModel items w none same = refl
+  same_understood p verb.Push items w none same = refl
+  same_understood p verb.Pop items w none same = refl
+  same_understood p verb.Reset items w none same = refl
+  same_understood p verb.Echo [] w none same = refl
+  same_understood p verb.Echo (a ∷ rest) w none same = refl
+  same_understood p verb.Exit items w none same = refl
+  same_understood p verb.SetEqual [] w none same = refl
+  same_understood p verb.SetEqual (a ∷ []) w none same = refl
+  same_understood p verb.SetEqual (a ∷ b ∷ rest) w none same = refl
+  same_understood p verb.SetSubset [] w none same = refl
+  same_understood p verb.SetSubset (a ∷ []) w none same = refl
+  same_understood p verb.SetSubset (a ∷ b ∷ rest) w none same = refl
+  same_understood p verb.SetEmpty [] w none same = refl
+  same_understood p verb.SetEmpty (a ∷ rest) w none same = refl
+  same_understood p verb.SetFinite [] w none same = refl
+  same_understood p verb.SetFinite (a ∷ rest) w none same = refl
+  same_understood p verb.SetStates [] w none same = refl
+  same_understood p verb.SetStates (a ∷ rest) w none same = refl
+  same_understood p verb.SetMember [] w none same = refl
+  same_understood p verb.SetMember (a ∷ rest) w none same = refl
+  same_understood p verb.SetList [] w none same = refl
+  same_understood p verb.SetList (a ∷ []) w none same = refl
+  same_understood p verb.SetList (a ∷ b ∷ rest) w none same = refl
+  same_understood p verb.Assert [] w none same = refl
+  same_understood p verb.Assert (e ∷ rest) w none same =
       follow_same (term (env s) e w) _ _ (λ m v. follow_same (truth_of (place_of e) m v) _ _ (λ i u. ap (λ r. follow r (λ c. give (kind.Assert i c))) (joined p i u none same)))
 
   same_by_row : (p q : Position) (r : Option Row) (items : List SExpr) (w : Work) → (length earlier == 0) ≡ (length later == 0) → conjunction s ≡ conjunction t → by_row s p q r items w ≡ by_row t p q r items w

@@ -4,19 +4,21 @@ use Rattle.std.proofs.lemmas.Bool.Decides.{nat_tests}
 use Rattle.std.specs.List.{AllByRecursion}
 use Rattle.pt_sets.specs.Elements.{ContainsByRecursion, AnyByRecursion}
 use Rattle.pt_formula.specs.Formulas.{variables_of}
-use Rattle.pt_read.specs.declared.command.Meaning.{Meaning}
-use Rattle.pt_read.specs.declared.command.Meaning.TheVariants.{Int, Bool as Truth}
-use Rattle.pt_read.specs.declared.command.Constant.{Constant}
+use Rattle.pt_terms.specs.declared.meaning.Meaning.{Meaning}
+use Rattle.pt_terms.specs.declared.meaning.Meaning.TheVariants.{Int, Bool as Truth}
+use Rattle.pt_terms.specs.declared.meaning.Constant.{Constant}
 use Rattle.pt_read.specs.declared.command.CommandKind.{CommandKind}
 use Rattle.pt_read.specs.declared.command.CommandKind.TheVariants as kind
-use Rattle.pt_read.specs.Elaboration.{Work}
-use Rattle.pt_read.specs.Scope.{Name, State, Symbol, Assertion, Use, Constant_of, Defined, constant_in, constants_in, with_symbol, popped, after}
+use Rattle.pt_terms.specs.Elaboration.{Work}
+use Rattle.pt_grammar.specs.Words.{Name}
+use Rattle.pt_read.specs.Scope.{State, Assertion, with_symbol, popped, after}
+use Rattle.pt_terms.specs.Names.{Symbol, Use, Constant_of, Defined, constant_in, constants_in}
 use Rattle.pt_read.specs.Lasting.{IsConstantUpTo, IsUseSound, AreInOrder, IsSound}
 use Rattle.pt_read.specs.Fits.{FitsKind, IsConstant, IsMeaning, free_of}
 use Rattle.pt_read.specs.Reader.{with_work}
-use Rattle.pt_read.proofs.FreeSteps.{IsFront, front-length}
-use Rattle.pt_read.proofs.FreeNodes.{IsWhole}
+use Rattle.pt_read.proofs.Prefixes.{front-length}
 use Rattle.pt_read.proofs.Fitting.{any-join-left, any-join-right, any-split}
+use Rattle.pt_terms.specs.Free.{IsFront, IsWhole}
 
 -- ---- lists
 

@@ -1,4 +1,4 @@
--- One turn of a loop over steps.
+-- Steps of elaboration: the first of two, and the turns of a loop over steps.
 use Rattle.std.proofs.Common.{◌≡◌, inl, inr, ℕ, zero, suc, ◌+◌, ◌<◌, ◌≤◌, List, [], ◌∷◌, ◌++◌, drop, get_or, length, add-one, Option, refl, ap, sym, subst, ◌∙◌, drop-cons, append_assoc, arith}
 use Rattle.std.specs.Prelude.{Result, Ok, Err, OnOk, Bool, true, false, not}
 use Rattle.std.specs.Result.{is_err}
@@ -6,10 +6,8 @@ use Rattle.std.proofs.lemmas.List.{append-nil}
 use Rattle.pt_formula.specs.declared.node.Position.{Position}
 use Rattle.pt_syntax.specs.declared.kinds.ReadKind.{ReadKind}
 use Rattle.pt_syntax.specs.declared.kinds.ReadRefusal.{ReadRefusal}
-use Rattle.pt_read.specs.Elaboration.{Work, Elab, give, follow, ◌>>=◌, require, each}
-use Rattle.pt_read.specs.Gives.{Fails}
-use Rattle.pt_read.specs.Chains.{run, close}
-use Rattle.pt_read.proofs.Chaining.{run_append}
+use Rattle.pt_terms.specs.Elaboration.{Work, Elab, give, follow, ◌>>=◌, require, each}
+use Rattle.pt_terms.specs.Gives.{Fails}
 
 -- what is left begins with the item that is read
 pub drop-item : {X : Type 0} (xs : List X) (k : ℕ) (x : X) → k < length xs → x ≡ get_or xs k x → drop k xs ≡ x ∷ drop (k + 1) xs
@@ -18,9 +16,6 @@ drop-item xs k x h e = rw (add-one) (drop-cons xs k x h ∙ ap (λ y. y ∷ drop
 pub fails_first : {A B : Type 0} (m : Elab A) (f : A → Elab B) (w : Work) (e : ReadRefusal) → Fails e (m w) → Fails e ((m >>= f) w)
 fails_first m f w e (inl h) = inl (ap (λ r. follow r f) h)
 fails_first m f w e (inr h) = inr h
-
-pub fails_then : {A B : Type 0} (m : Elab A) (f : A → Elab B) (w v : Work) (a : A) (e : ReadRefusal) → m w ≡ Ok (a, v) → Fails e (f a v) → Fails e ((m >>= f) w)
-fails_then m f w v a e ok h = subst (Fails e) (sym (ap (λ r. follow r f) ok)) h
 
 pub given_then : {A B : Type 0} (m : Elab A) (f : A → Elab B) (w v : Work) (a : A) → m w ≡ Ok (a, v) → (m >>= f) w ≡ f a v
 given_then m f w v a ok = ap (λ r. follow r f) ok
@@ -32,15 +27,6 @@ module _ {A B C : Type 0} (m : Elab A) (f : A → Elab B) (after : B → Elab C)
 
   pub turn_goes : (a : A) (v : Work) → m w ≡ Ok (a, v) → (f a >>= after) v ≡ all
   turn_goes a v ok = sym (ap (λ r. follow r after) (given_then m f w v a ok)) ∙ told
-
--- a run of a part, after which the rest follows
-module _ {A : Type 0} (f : A → Elab ℕ) (p : Position) (so_far : Option ℕ) (xs ys : List A) (w : Work) (all : Result (ℕ × Work) ReadRefusal)
-    (told : (run f p so_far (xs ++ ys) >>= close p) w ≡ all) where
-  pub part_fails : (e : ReadRefusal) → Fails e (run f p so_far xs w) → Fails e all
-  part_fails e h = subst (Fails e) (sym (run_append f p so_far xs ys w) ∙ told) (fails_first (run f p so_far xs) (λ j. run f p j ys >>= close p) w e h)
-
-  pub part_goes_on : (j : Option ℕ) (v : Work) → run f p so_far xs w ≡ Ok (j, v) → (run f p j ys >>= close p) v ≡ all
-  part_goes_on j v ok = sym (given_then (run f p so_far xs) (λ j. run f p j ys >>= close p) w v j ok) ∙ sym (run_append f p so_far xs ys w) ∙ told
 
 -- one more answer in front of the others
 more_found : {B : Type 0} (found : List B) (y : B) (r : Result (List B × Work) ReadRefusal) → follow (follow r (λ ys. give (y ∷ ys))) (λ ys. give (found ++ ys)) ≡ follow r (λ ys. give ((found ++ y ∷ []) ++ ys))

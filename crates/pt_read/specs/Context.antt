@@ -4,10 +4,13 @@ use Rattle.std.specs.List.{AllByRecursion}
 use Rattle.pt_syntax.specs.declared.sexpr.SExpr.{SExpr}
 use Rattle.pt_read.specs.declared.command.CommandKind.{CommandKind}
 use Rattle.pt_read.specs.declared.command.CommandKind.TheVariants as kind
-use Rattle.pt_read.specs.Elaboration.{Work, Elab, ◌>>=◌}
-use Rattle.pt_read.specs.Scope.{Assertion, Symbol, State, conjunction}
-use Rattle.pt_read.specs.Sound.{IsUseIn, IsMeaningIn}
-use Rattle.pt_read.specs.Commands.{new_name, no_sorts, declared}
+use Rattle.pt_terms.specs.Elaboration.{Work, Elab, ◌>>=◌, give}
+use Rattle.pt_read.specs.Scope.{Assertion, State, conjunction, last_conjunction}
+use Rattle.pt_terms.specs.Names.{Symbol}
+use Rattle.pt_terms.specs.Sound.{IsUseIn, IsMeaningIn}
+use Rattle.pt_read.specs.Commands.{new_name, no_sorts, declared, list_command}
+use Rattle.pt_formula.specs.declared.node.Position.{Position}
+use Rattle.pt_read.specs.declared.command.Command.{Command}
 
 -- one assertion with the conjunction stands for all of them
 abbrev pub assertions_of : Option ℕ → List Assertion
@@ -36,3 +39,21 @@ IsKindIn w _ = ⊤
 -- a constant that is declared as a function
 abbrev pub declared_function : State → SExpr → SExpr → SExpr → Elab CommandKind
 declared_function s name sorts sort = new_name s name >>= λ _. no_sorts sorts >>= λ _. declared s name sort
+
+-- the conjunction of the assertions, if there are any
+abbrev pub LastIs : State → List Assertion → Option ℕ → Type 0
+LastIs s [] last = last ≡ None
+LastIs s (a ∷ more) last = last ≡ Some (conjunction s)
+
+-- a scope has these live names and this last conjunction
+abbrev pub Stands : State → List Symbol → Option ℕ → Type 0
+Stands s symbols last = (s.symbols ≡ symbols) × LastIs s s.assertions last
+
+-- the command with its place
+abbrev pub commanded : State → Position → List SExpr → Elab Command
+commanded s p items = list_command s p items >>= λ k. give (record { position = p; kind = k })
+
+-- the conjunction of assertions, where there are any
+abbrev pub joined : List Assertion → Option ℕ
+joined [] = None
+joined (a ∷ more) = Some (last_conjunction a.conjunction more)

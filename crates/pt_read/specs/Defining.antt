@@ -1,13 +1,14 @@
 -- Definitions, a parameter at a time.
 use Rattle.std.specs.Prelude.{ℕ, Bool, List, [], ◌∷◌, ◌++◌, map}
 use Rattle.pt_syntax.specs.declared.sexpr.SExpr.{SExpr}
-use Rattle.pt_read.specs.declared.command.Meaning.{Meaning}
+use Rattle.pt_terms.specs.declared.meaning.Meaning.{Meaning}
 use Rattle.pt_read.specs.declared.command.CommandKind.{CommandKind}
 use Rattle.pt_read.specs.declared.command.CommandKind.TheVariants as kind
-use Rattle.pt_read.specs.Elaboration.{Elab, give, ◌>>=◌, fresh}
-use Rattle.pt_read.specs.Scope.{Name, State}
-use Rattle.pt_read.specs.Names.{place_of, items_of}
-use Rattle.pt_read.specs.Special.{bindable, int_sort, variable, as_bound, items_or_none, term}
+use Rattle.pt_terms.specs.Elaboration.{Elab, give, ◌>>=◌, fresh}
+use Rattle.pt_grammar.specs.Words.{Name}
+use Rattle.pt_read.specs.Scope.{State}
+use Rattle.pt_grammar.specs.Exprs.{place_of, items_of, items_or_none}
+use Rattle.pt_terms.specs.Terms.{bindable, int_sort, variable, as_bound, term}
 use Rattle.pt_read.specs.Commands.{new_name, result_sort, of_sort}
 
 -- a parameter by its name and its sort

@@ -9,14 +9,15 @@ use Rattle.pt_formula.specs.Forms.{IsIncreasing}
 use Rattle.pt_formula.specs.Sums.{IsForm}
 use Rattle.pt_formula.specs.declared.TheConstants.{MAX_TRACKS}
 use Rattle.pt_formula.specs.Formulas.{node_at, variables_of, contains}
-use Rattle.pt_read.specs.declared.command.Meaning.{Meaning}
-use Rattle.pt_read.specs.declared.command.Meaning.TheVariants.{Int, Bool as Truth}
-use Rattle.pt_read.specs.declared.command.Constant.{Constant}
+use Rattle.pt_terms.specs.declared.meaning.Meaning.{Meaning}
+use Rattle.pt_terms.specs.declared.meaning.Meaning.TheVariants.{Int, Bool as Truth}
+use Rattle.pt_terms.specs.declared.meaning.Constant.{Constant}
 use Rattle.pt_read.specs.declared.command.Definition.{Definition}
 use Rattle.pt_read.specs.declared.command.Predicate.{Predicate}
 use Rattle.pt_read.specs.declared.command.CommandKind.{CommandKind}
 use Rattle.pt_read.specs.declared.command.CommandKind.TheVariants as kind
-use Rattle.pt_read.specs.Scope.{State, Assertion, Constant_of, is_live, find_symbol, conjunction, constants_in}
+use Rattle.pt_read.specs.Scope.{State, Assertion, conjunction}
+use Rattle.pt_terms.specs.Names.{Constant_of, is_live, find_symbol, constants_in}
 
 -- no node binds the variable
 abbrev pub IsUnbound : List (Node × Position) → ℕ → Type 0

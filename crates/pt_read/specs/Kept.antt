@@ -3,7 +3,8 @@ use Rattle.std.specs.Prelude.{◌≡◌, ◌≤◌, List, [], ◌∷◌, map, �
 use Rattle.std.specs.List.{AllByRecursion}
 use Rattle.pt_read.specs.declared.scope.Scope.TheInside.{Inside}
 use Rattle.pt_read.specs.declared.scope.Assertion as assertion_kept
-use Rattle.pt_read.specs.Scope.{State, Assertion, constants_in}
+use Rattle.pt_read.specs.Scope.{State, Assertion}
+use Rattle.pt_terms.specs.Names.{constants_in}
 use Rattle.pt_read.specs.Lasting.{IsSound}
 
 abbrev pub shown_assertion : assertion_kept.Assertion → Assertion

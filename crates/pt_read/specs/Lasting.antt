@@ -3,8 +3,9 @@ use Rattle.std.specs.Prelude.{ℕ, ◌<◌, ◌≤◌, ◌⊎◌, ◌≡◌, nat
 use Rattle.std.specs.List.{AllByRecursion}
 use Rattle.pt_sets.specs.Elements.{ContainsByRecursion, AnyByRecursion}
 use Rattle.pt_formula.specs.Forms.{IsIncreasing}
-use Rattle.pt_read.specs.declared.command.Constant.{Constant}
-use Rattle.pt_read.specs.Scope.{State, Symbol, Assertion, Use, Constant_of, Defined, constants_in}
+use Rattle.pt_terms.specs.declared.meaning.Constant.{Constant}
+use Rattle.pt_read.specs.Scope.{State, Assertion}
+use Rattle.pt_terms.specs.Names.{Symbol, Use, Constant_of, Defined, constants_in}
 use Rattle.pt_read.specs.Fits.{IsMeaning, free_of}
 
 -- the variable of a constant of this level or a lower one

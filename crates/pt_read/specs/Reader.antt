@@ -1,5 +1,5 @@
 -- What a reader has left, and what its next answer may be.
-use Rattle.std.specs.Prelude.{◌≤◌, ◌≡◌, ◌⊎◌, ◌++◌, List, Option, Some, None, Result, Ok, Err}
+use Rattle.std.specs.Prelude.{⊤, ◌≤◌, ◌≡◌, ◌⊎◌, ◌++◌, List, Option, Some, None, Result, Ok, Err}
 use Rattle.pt_formula.specs.declared.node.Node.{Node}
 use Rattle.pt_formula.specs.declared.node.Position.{Position}
 use Rattle.pt_read.specs.declared.command.Command.{Command}
@@ -7,7 +7,7 @@ use Rattle.pt_syntax.specs.declared.kinds.ReadRefusal.{ReadRefusal}
 use Rattle.pt_syntax.specs.Lists.{Script, Done, Stops, Command as Reads_list}
 use Rattle.pt_syntax.specs.Rest.{lists_left, no_memory}
 use Rattle.pt_read.specs.Rest.{Rest}
-use Rattle.pt_read.specs.Elaboration.{Work}
+use Rattle.pt_terms.specs.Elaboration.{Work}
 use Rattle.pt_read.specs.Scope.{State}
 use Rattle.pt_read.specs.Fits.{FitsKind}
 use Rattle.pt_read.specs.Commands.{elaborate}
@@ -48,18 +48,24 @@ IsNext None Done old left new = (left ≡ Done) × (new ≡ old)
 IsNext (Some c) (Reads_list p items rest) old left new = (w : Work) × (elaborate old p items ≡ Ok (c, w)) × (left ≡ rest) × (new ≡ with_work w old)
 IsNext _ _ old left new = ⊥
 
--- the answer of a reader in a scope, with what is left before and after, and the scope before and after
+-- reader and scope are as they were where a refusal was answered before
+abbrev pub StaysIfRefused : Option ReadRefusal → Rest → State → Rest → State → Type 0
+StaysIfRefused None old s new t = ⊤
+StaysIfRefused (Some f) old s new t = (new ≡ old) × (t ≡ s)
+
+-- The answer of a reader in a scope, with what is left before and after, and the scope before and after. A refusal is kept, so it is
+-- answered for ever.
 abbrev pub Answers : Result (Option Command) ReadRefusal → Rest → State → Rest → State → Type 0
 Answers (Ok answer) old s new t = IsNext answer (left old) s (left new) t
-Answers (Err e) old s new t = MayRefuse old.refused (left old) s e × (left new ≡ Stops e) × OnlyAdds s t
+Answers (Err e) old s new t = MayRefuse old.refused (left old) s e × (new.refused ≡ Some e) × StaysIfRefused old.refused old s new t
 
--- what a command's elaboration answers, that it fits, and what it adds
+-- what a command's elaboration answers, and that it fits
 abbrev pub Elaborated : Result Command ReadRefusal → State → State → Result (Command × Work) ReadRefusal → Type 0
 Elaborated (Ok c) old new given = (w : Work) × (given ≡ Ok (c, w)) × (new ≡ with_work w old) × FitsKind c.kind new
-Elaborated (Err e) old new given = ((given ≡ Err e) ⊎ (e ≡ no_memory)) × OnlyAdds old new
+Elaborated (Err e) old new given = (given ≡ Err e) ⊎ (e ≡ no_memory)
 
 -- what is read from the lists that are left, where no refusal was answered before
 abbrev pub Reads : Result (Option Command) ReadRefusal → Script → State → Script → State → Type 0
 Reads (Ok None) script s left t = IsNext None script s left t
 Reads (Ok (Some c)) script s left t = IsNext (Some c) script s left t × FitsKind c.kind t
-Reads (Err e) script s left t = MayRefuse None script s e × OnlyAdds s t
+Reads (Err e) script s left t = MayRefuse None script s e

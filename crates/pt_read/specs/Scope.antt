@@ -1,27 +1,12 @@
 -- What is in force between two commands, as plain data.
-use Rattle.std.specs.Prelude.{ℕ, ◌+◌, ◌-◌, nat_le, Bool, if◌then◌else◌, List, [], ◌∷◌, ◌++◌, filter, Option, Some, None, bytes_eq}
-use Rattle.std.specs.List.{list_any}
+use Rattle.std.specs.Prelude.{ℕ, ◌+◌, ◌-◌, nat_le, List, [], ◌∷◌, ◌++◌, filter}
 use Rattle.pt_formula.specs.declared.node.Node.{Node}
 use Rattle.pt_formula.specs.declared.node.Position.{Position}
 use Rattle.pt_formula.specs.Formulas.{start}
-use Rattle.pt_read.specs.declared.command.Meaning.{Meaning}
 use Rattle.pt_read.specs.declared.command.CommandKind.{CommandKind}
 use Rattle.pt_read.specs.declared.command.CommandKind.TheVariants as kind
-use Rattle.pt_read.specs.declared.command.Constant.{Constant}
-
-abbrev pub Name : Type 0
-Name = List ℕ
-
--- what a live name stands for: a declared constant's variable, or a definition's parameters and body
-pub data Use : Type 0 where
-  Constant_of : ℕ → Use
-  Defined : List ℕ → Meaning → Use
-
--- a live name, and the level that made it
-pub record Symbol : Type 0 where
-  pub name : Name
-  pub stands_for : Use
-  pub level : ℕ
+use Rattle.pt_grammar.specs.Words.{Name}
+use Rattle.pt_terms.specs.Names.{Use, Constant_of, Defined, Symbol}
 
 -- an assertion: its node, and that of the conjunction of all assertions up to it
 pub record Assertion : Type 0 where
@@ -42,13 +27,6 @@ pub record State : Type 0 where
 abbrev pub initial : State
 initial = record { formula = start; given = 0; depth = 0; symbols = []; assertions = [] }
 
-abbrev pub find_symbol : List Symbol → Name → Option Use
-find_symbol [] name = None
-find_symbol (s ∷ symbols) name = if bytes_eq s.name name then Some s.stands_for else find_symbol symbols name
-
-abbrev pub is_live : List Symbol → Name → Bool
-is_live symbols name = list_any (λ (s : Symbol). bytes_eq s.name name) symbols
-
 -- the conjunction of the live assertions, node 0 without any
 abbrev pub last_conjunction : ℕ → List Assertion → ℕ
 last_conjunction c [] = c
@@ -56,15 +34,6 @@ last_conjunction c (a ∷ assertions) = last_conjunction a.conjunction assertion
 
 abbrev pub conjunction : State → ℕ
 conjunction s = last_conjunction 0 s.assertions
-
--- the declared constants, in order
-abbrev pub constant_in : Symbol → Use → List Constant
-constant_in s (Constant_of v) = record { name = s.name; variable = v } ∷ []
-constant_in s (Defined parameters meaning) = []
-
-abbrev pub constants_in : List Symbol → List Constant
-constants_in [] = []
-constants_in (s ∷ symbols) = constant_in s s.stands_for ++ constants_in symbols
 
 -- one more name, made at the level that stands
 abbrev pub with_symbol : Name → Use → State → State

@@ -1,18 +1,17 @@
 // What a command is elaborated in.
 ghost use Rattle.std.specs.Prelude.{◌≡◌, option_map};
-ghost use Rattle.pt_read.specs.Names.{symbol_of};
-ghost use Rattle.pt_read.specs.Scope.{is_live};
-ghost use Rattle.pt_read.specs.Symbols.{shown_use};
+ghost use Rattle.pt_grammar.specs.Exprs.{symbol_of};
+ghost use Rattle.pt_terms.specs.Names.{is_live};
+ghost use Rattle.pt_terms.specs.Symbols.{shown_use};
 ghost use Rattle.pt_read.specs.Commands.{constant_by};
-ghost use Rattle.pt_read.specs.Gives.{Says};
+ghost use Rattle.pt_terms.specs.Gives.{Says};
 
-use crate::binders::{items_in, name_in};
-use crate::command::Constant;
-use crate::exprs::{place, symbol};
-use crate::refusals::{no_memory, refused};
-use crate::symbols::{Symbols, Use};
-use crate::words::{is, is_reserved_word};
+use pt_grammar::exprs::{items_in, name_in, place, symbol};
+use pt_grammar::words::{is, is_reserved_word};
 use pt_syntax::{Position, ReadKind, ReadRefusal, SExpr};
+use pt_terms::meaning::Constant;
+use pt_terms::refusals::{no_memory, refused};
+use pt_terms::symbols::{Symbols, Use};
 use sqlite_items::Items;
 use std::alloc::Global;
 use std::marker::Model;
@@ -36,13 +35,13 @@ impl<'s> Model for Context<'s> {
 
 impl<'s> Context<'s> {
     ghost use Rattle.std.specs.Prelude.{◌≡◌, ◌||◌};
-    ghost use Rattle.pt_read.specs.Elaboration.{each};
-    ghost use Rattle.pt_read.specs.Names.{symbol_of, items_of, is_reserved};
-    ghost use Rattle.pt_read.specs.Special.{name_of, items_or_none};
-    ghost use Rattle.pt_read.specs.Scope.{is_live};
+    ghost use Rattle.pt_terms.specs.Elaboration.{each};
+    ghost use Rattle.pt_grammar.specs.Exprs.{symbol_of, items_of, name_of, items_or_none};
+    ghost use Rattle.pt_grammar.specs.Words.{is_reserved};
+    ghost use Rattle.pt_terms.specs.Names.{is_live};
     ghost use Rattle.pt_read.specs.Context.{state_of};
     ghost use Rattle.pt_read.specs.Commands.{new_name, constant_of};
-    ghost use Rattle.pt_read.specs.Gives.{Says};
+    ghost use Rattle.pt_terms.specs.Gives.{Says};
 
     /// With these live names, and the conjunction of the assertions, if there are any.
     pub(crate) fn new(live: &'s Symbols, conjunction: Option<u32>) -> Context<'s>

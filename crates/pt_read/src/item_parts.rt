@@ -1,33 +1,14 @@
 // Parts of items, and their rules.
 ghost use Rattle.std.specs.Prelude.{◌≡◌, bytes_eq, IfOk};
-ghost use Rattle.pt_read.specs.Names.{symbol_of, items_of};
-ghost use Rattle.pt_read.specs.Special.{name_of, items_or_none, int_sort};
+ghost use Rattle.pt_grammar.specs.Exprs.{symbol_of, items_of, name_of, items_or_none};
+ghost use Rattle.pt_terms.specs.Terms.{int_sort};
 ghost use Rattle.pt_read.specs.Commands.{no_sorts, result_sort, of_sort, success_option, success_value};
-ghost use Rattle.pt_read.specs.Gives.{Says};
+ghost use Rattle.pt_terms.specs.Gives.{Says};
 
-use crate::binders::{items_in, name_in};
-use crate::command::Meaning;
-use crate::exprs::{keyword, place};
-use crate::refusals::refused;
+use pt_grammar::exprs::{is_symbol, items_in, keyword, place};
 use pt_syntax::{Position, ReadKind, ReadRefusal, SExpr};
-
-/// Whether an expression is this symbol.
-pub(crate) fn is_symbol(e: &SExpr, word: &[u8]) -> bool
-    ensures { result ≡ bytes_eq (name_of (symbol_of e.now)) word.now }
-{
-    name_in(e) == word
-}
-
-/// That a sort is Int.
-pub(crate) fn int_only(sort: &SExpr) -> Result<(), ReadRefusal>
-    ensures { Says (λ _. tt {0}) result (int_sort sort.now) }
-{
-    if is_symbol(sort, b"Int") {
-        Ok(())
-    } else {
-        Err(refused(ReadKind::Unsupported, place(sort)))
-    }
-}
+use pt_terms::meaning::Meaning;
+use pt_terms::refusals::refused;
 
 /// That a list of sorts is empty.
 pub(crate) fn without_sorts(list: &SExpr) -> Result<(), ReadRefusal>

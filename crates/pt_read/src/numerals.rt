@@ -1,41 +1,15 @@
 // Numerals and integers of commands.
-ghost use Rattle.std.specs.Prelude.{◌≡◌, ◌^◌, ◌<◌, min, pos, neg_ℤ, IfOk, option_map};
-ghost use Rattle.pt_syntax.specs.Bytes.{numeral_value};
-ghost use Rattle.pt_read.specs.Elaboration.{each};
-ghost use Rattle.pt_read.specs.Special.{numeral};
+ghost use Rattle.std.specs.Prelude.{◌≡◌, ◌^◌, ◌<◌, pos, neg_ℤ, IfOk, option_map};
+ghost use Rattle.pt_terms.specs.Elaboration.{each};
 ghost use Rattle.pt_read.specs.Commands.{number, number_or_one, integer, negated};
-ghost use Rattle.pt_read.specs.Gives.{Says};
+ghost use Rattle.pt_terms.specs.Gives.{Says};
 
-use crate::exprs::{items, numeral, place};
-use crate::refusals::{no_memory, refused};
-use pt_syntax::{Position, ReadKind, ReadRefusal, SExpr};
+use pt_grammar::exprs::{items, numeral, place};
+use pt_syntax::{ReadRefusal, SExpr};
+use pt_terms::numerals::number_at;
+use pt_terms::refusals::no_memory;
 use sqlite_items::Items;
 use std::alloc::Global;
-
-/// The value of digits, or `2^63` where it is greater. One pass.
-fn magnitude(digits: &[u8]) -> u64
-    ensures { result ≡ min (numeral_value digits.now) (2 ^ 63) }
-{
-    let mut value = 0u64;
-    for b in digits {
-        let next = 10 * u128::from(value) + u128::from(b.saturating_sub(48));
-        value = next.min(1 << 63) as u64;
-    }
-    value
-}
-
-/// The number of these digits, which has to fit 63 bits.
-pub(crate) fn number_at(at: Position, digits: &[u8]) -> Result<u64, ReadRefusal>
-    ensures says { Says (λ n. n) result (numeral at digits.now) }
-    ensures small { IfOk result (λ n. n < 2 ^ 63) }
-{
-    let value = magnitude(digits);
-    if value < 1 << 63 {
-        Ok(value)
-    } else {
-        Err(refused(ReadKind::Coefficient, at))
-    }
-}
 
 /// The number of a numeral.
 pub(crate) fn number(e: &SExpr) -> Result<u64, ReadRefusal>

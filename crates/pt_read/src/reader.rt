@@ -22,7 +22,7 @@ impl<'a> Model for Reader<'a> {
 impl<'a> Reader<'a> {
     ghost use Rattle.std.specs.Prelude.{◌≡◌, ◌≤◌, ◌^◌, length, IfOk, IfSome, None};
     ghost use Rattle.pt_read.specs.Rest.{at_start};
-    ghost use Rattle.pt_read.specs.Reader.{Answers, Reads};
+    ghost use Rattle.pt_read.specs.Reader.{Answers, Reads, OnlyAdds};
     ghost use Rattle.pt_syntax.specs.Rest.{lists_left};
     ghost use Rattle.pt_read.specs.Fits.{FitsKind};
 
@@ -37,7 +37,9 @@ impl<'a> Reader<'a> {
         }
     }
 
-    /// The next command, elaborated in the scope. Nodes and variable numbers are added to the scope, names are not.
+    /// The next command, elaborated in the scope. Nodes and variable numbers are added to the scope, names are not. A refusal is answered
+    /// for ever, and once it was answered nothing changes.
+    #[tactic(auto, using(crate::proofs::ReadingLaws::reading))]
     pub fn next_command(
         &mut self,
         alloc: Global,
@@ -45,6 +47,7 @@ impl<'a> Reader<'a> {
     ) -> Result<Option<Command>, ReadRefusal>
         requires { scope.old.given ≤ 2 ^ 31 }
         ensures answer { Answers result self.old scope.old self.new scope.new }
+        ensures adds { OnlyAdds scope.old scope.new }
         ensures fits { IfOk result (λ read. IfSome read (λ c. FitsKind c.kind scope.new)) }
     {
         if let Some(refusal) = self.refused {
@@ -58,10 +61,12 @@ impl<'a> Reader<'a> {
     }
 
     /// The next command, where no refusal was answered before.
+    #[tactic(auto, using(crate::proofs::ReadingLaws::reading))]
     fn read(&mut self, alloc: Global, scope: &mut Scope) -> Result<Option<Command>, ReadRefusal>
         requires { self.old.refused ≡ None }
         ensures same { self.new.refused ≡ None }
         ensures reads { Reads result (lists_left self.old.lists) scope.old (lists_left self.new.lists) scope.new }
+        ensures adds { OnlyAdds scope.old scope.new }
     {
         let Some(list) = self.lists.next_list(alloc)? else {
             return Ok(None);

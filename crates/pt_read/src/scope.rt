@@ -1,14 +1,13 @@
-use crate::arithmetic::copy_of_meaning;
-use crate::command::{Command, CommandKind, Constant, Definition};
+use crate::command::{Command, CommandKind, Definition};
 use crate::commands;
-use crate::elaborator::Elaborator;
-use crate::symbols::{Symbols, Use};
 use pt_digits::NoMemory;
-use pt_formula::laws::{
-    appended_nodes_change_no_earlier_one, trees_are_made_of_those_of_the_children,
-};
 use pt_formula::{Formula, NodeId, Var};
 use pt_syntax::{Position, ReadRefusal, SExpr};
+use pt_terms::arithmetic::copy_of_meaning;
+use pt_terms::elaborator::Elaborator;
+use pt_terms::laws::terms_are_over_the_names_that_they_see;
+use pt_terms::meaning::Constant;
+use pt_terms::symbols::{Symbols, Use};
 use sqlite_items::Items;
 use std::alloc::Global;
 use std::marker::Model;
@@ -62,12 +61,13 @@ fn assertions_up_to(assertions: &[Assertion], level: u128) -> usize
 /// The readers take constant time.
 impl Scope {
     ghost use Rattle.std.specs.Prelude.{◌<◌, ◌≤◌, ◌^◌, length, IfOk, OnOk, OnErr};
-    ghost use Rattle.pt_read.specs.Scope.{initial, after, conjunction, constants_in, is_live};
+    ghost use Rattle.pt_read.specs.Scope.{initial, after, conjunction};
+    ghost use Rattle.pt_terms.specs.Names.{constants_in, is_live};
     ghost use Rattle.pt_read.specs.Fits.{FitsKind, CanPop, IsNewConstant, IsNewDefinition, IsNewAssertion};
     ghost use Rattle.pt_read.specs.declared.command.CommandKind.TheVariants as kind;
     ghost use Rattle.pt_read.specs.Commands.{elaborate};
-    ghost use Rattle.pt_read.specs.Reader.{Elaborated};
-    ghost use Rattle.pt_read.specs.Standing.{joined};
+    ghost use Rattle.pt_read.specs.Reader.{Elaborated, OnlyAdds};
+    ghost use Rattle.pt_read.specs.Context.{joined};
 
     /// Node 0 alone, no names, level 0, and no variable number given.
     pub fn new(alloc: Global) -> Result<Scope, NoMemory>
@@ -168,10 +168,10 @@ impl Scope {
         at: Position,
         items: &[SExpr],
     ) -> Result<Command, ReadRefusal>
-        ensures { Elaborated result self.old self.new (elaborate self.old at items.now) }
+        ensures elaborated { Elaborated result self.old self.new (elaborate self.old at items.now) }
+        ensures adds { OnlyAdds self.old self.new }
     {
-        appended_nodes_change_no_earlier_one();
-        trees_are_made_of_those_of_the_children();
+        terms_are_over_the_names_that_they_see();
         let joined = self.joined();
         let _before = self.work.formula().len();
         let command = commands::elaborate(alloc, &mut self.work, &self.symbols, joined, at, items);

@@ -7,5 +7,6 @@ mod kinds;
 mod limits;
 mod nodes;
 mod outline;
+mod refused;
 mod sets;
 mod terms;

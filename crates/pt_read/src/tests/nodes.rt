@@ -193,7 +193,7 @@ fn nodes_of_atoms(rt: HostRuntime) -> Result<(), Fail> {
 }
 
 /// Texts, each with the nodes that it makes behind node 0, in order.
-const NODES_OF_SUMS: [(&str, &str); 12] = [
+const NODES_OF_SUMS: [(&str, &str); 13] = [
     (
         "(declare-const x Int)\n(assert (= (+ x) 0))",
         " 2:9 1*v0 = 0",
@@ -226,6 +226,10 @@ const NODES_OF_SUMS: [(&str, &str); 12] = [
     (
         "(declare-const x Int)\n(assert (= (* x (- x x) x) 1))",
         " 2:9 false",
+    ),
+    (
+        "(declare-const x Int)\n(assert (= (* x 0 x) 0))",
+        " 2:9 true",
     ),
     (
         "(declare-const x Int)\n(assert (= (* 4611686018427387904 (- 2) x) 1))",

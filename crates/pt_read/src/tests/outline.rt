@@ -1,7 +1,7 @@
 //! Texts and what is read of them, written in one line.
 ghost use Rattle.pt_read.specs.Fits.{FitsKind};
 
-use crate::{Command, CommandKind, Meaning, Predicate, Reader, Scope};
+use crate::{Command, CommandKind, Meaning, Predicate, ReadRefusal, Reader, Scope};
 use pt_formula::{Formula, Kind, Node, Position};
 use std::alloc::{AllocError, Global};
 use std::process::Abort;
@@ -229,6 +229,16 @@ fn apply(alloc: Global, scope: &mut Scope, command: &Command) -> Result<(), Allo
     }
 }
 
+pub(crate) fn write_refusal(
+    alloc: Global,
+    out: &mut Vec<u8>,
+    refusal: ReadRefusal,
+) -> Result<(), AllocError> {
+    let kind = format!(in alloc; " {:?}", refusal.kind)?;
+    out.extend_from_slice(kind.as_bytes())?;
+    write_place(alloc, out, refusal.position)
+}
+
 /// What is read of a text: each command, or nothing of them but their last refusal; and the nodes.
 #[derive(Clone, Copy)]
 pub(crate) struct Shown {
@@ -259,9 +269,7 @@ pub(crate) fn outline(alloc: Global, text: &[u8], shown: Shown) -> Result<Vec<u8
             }
             Ok(None) => break,
             Err(refusal) => {
-                let kind = format!(in alloc; " {:?}", refusal.kind)?;
-                out.extend_from_slice(kind.as_bytes())?;
-                write_place(alloc, &mut out, refusal.position)?;
+                write_refusal(alloc, &mut out, refusal)?;
                 break;
             }
         }

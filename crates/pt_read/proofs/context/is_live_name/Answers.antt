@@ -1,5 +1,5 @@
 use Rattle.std.proofs.Common.{◌∙◌}
-use Rattle.pt_read.specs.Symbols.{shown_use}
+use Rattle.pt_terms.specs.Symbols.{shown_use}
 use Rattle.pt_read.proofs.ItemLemmas.{live_where}
 use Rattle.pt_read.proofs.context.is_live_name.Goals as goal
 

@@ -1,5 +1,5 @@
 use Rattle.std.proofs.Common.{◌≡◌, ◌++◌, drop}
-use Rattle.pt_read.specs.Elaboration.{Work, each, give, ◌>>=◌}
+use Rattle.pt_terms.specs.Elaboration.{Work, each, give, ◌>>=◌}
 use Rattle.pt_read.specs.Commands.{integer}
 use Rattle.pt_read.proofs.numerals.integers.Given as goal
 

@@ -1,8 +1,7 @@
 use Rattle.std.proofs.Common.{◌≡◌, ◌+◌, List, [], ◌∷◌, ◌++◌, drop, subst, sym, ◌∙◌}
-use Rattle.pt_read.specs.declared.command.Constant.{Constant}
-use Rattle.pt_read.specs.Elaboration.{Work, each, give, ◌>>=◌}
-use Rattle.pt_read.specs.Names.{symbol_of, items_of}
-use Rattle.pt_read.specs.Special.{items_or_none}
+use Rattle.pt_terms.specs.declared.meaning.Constant.{Constant}
+use Rattle.pt_terms.specs.Elaboration.{Work, each, give, ◌>>=◌}
+use Rattle.pt_grammar.specs.Exprs.{symbol_of, items_of, items_or_none}
 use Rattle.pt_read.specs.Commands.{constant_of}
 use Rattle.pt_read.proofs.Steps.{each_start, each_fails, each_goes, each_done, went_well}
 use Rattle.pt_read.proofs.context.Context.constants.Goals as goal

@@ -1,7 +1,6 @@
 use Rattle.std.proofs.Common.{◌≡◌, ◌++◌, drop}
-use Rattle.pt_read.specs.Elaboration.{Work, each, give, ◌>>=◌}
-use Rattle.pt_read.specs.Names.{symbol_of, items_of}
-use Rattle.pt_read.specs.Special.{items_or_none}
+use Rattle.pt_terms.specs.Elaboration.{Work, each, give, ◌>>=◌}
+use Rattle.pt_grammar.specs.Exprs.{symbol_of, items_of, items_or_none}
 use Rattle.pt_read.specs.Commands.{constant_of}
 use Rattle.pt_read.proofs.context.Context.constants.Given as goal
 

@@ -1,10 +1,10 @@
 use Rattle.std.proofs.Common.{ap, sym, ◌∙◌}
 use Rattle.std.specs.Prelude.{◌||◌}
 use Rattle.pt_syntax.specs.declared.kinds.ReadKind.TheVariants.{Redeclared}
-use Rattle.pt_read.specs.Elaboration.{Work, give}
-use Rattle.pt_read.specs.Names.{symbol_of, place_of, is_reserved}
-use Rattle.pt_read.specs.Scope.{is_live}
-use Rattle.pt_read.specs.Special.{name_of}
+use Rattle.pt_terms.specs.Elaboration.{Work, give}
+use Rattle.pt_grammar.specs.Exprs.{symbol_of, place_of, name_of}
+use Rattle.pt_grammar.specs.Words.{is_reserved}
+use Rattle.pt_terms.specs.Names.{is_live}
 use Rattle.pt_read.proofs.Steps.{refused_first}
 use Rattle.pt_read.proofs.context.Context.new_name.Goals as goal
 

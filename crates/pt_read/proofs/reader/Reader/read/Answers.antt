@@ -10,4 +10,4 @@ pub returns-clause-reads : goal.returns-clause-reads
 returns-clause-reads c =
     rw (← c.self.view_is)
     (command-read c.in-Some.list.position c.in-Some.list.items (lists_left c.self.inside.lists) (lists_left c.next_list.new.self) c.args.scope.now c.elaborate.new.self c.in_ok-command.command
-    (rw c.in-Some.is at c.in_ok-list.ensures.next) (rw c.as_slice.ensures at c.in_ok-command.ensures))
+    (rw c.in-Some.is at c.in_ok-list.ensures.next) (rw c.as_slice.ensures at c.in_ok-command.ensures.elaborated))

@@ -1,6 +1,7 @@
 use Rattle.std.proofs.Common.{◌≡◌, ℕ, map, List, [], ◌∷◌, ◌++◌, ap, sym, subst, ◌∙◌}
 use Rattle.pt_read.specs.declared.command.CommandKind.TheVariants as kind
-use Rattle.pt_read.specs.Scope.{Symbol, Constant_of, constants_in, with_symbol}
+use Rattle.pt_terms.specs.Names.{Symbol, Constant_of, constants_in}
+use Rattle.pt_read.specs.Scope.{with_symbol}
 use Rattle.pt_read.specs.Kept.{shown, shown_assertion}
 use Rattle.pt_read.specs.Lasting.{IsSound}
 use Rattle.pt_read.specs.Fits.{IsNewConstant}

@@ -1,7 +1,7 @@
 use Rattle.std.proofs.Common.{◌≡◌, inl, inr, map, List, [], ◌∷◌, ◌++◌, ap, sym, subst, ◌∙◌, append-nil}
 use Rattle.pt_read.specs.declared.command.Definition.{Definition}
 use Rattle.pt_read.specs.declared.command.CommandKind.TheVariants as kind
-use Rattle.pt_read.specs.Scope.{Symbol, Defined, constants_in}
+use Rattle.pt_terms.specs.Names.{Symbol, Defined, constants_in}
 use Rattle.pt_read.specs.Kept.{shown, IsKept, shown_assertion}
 use Rattle.pt_read.specs.Lasting.{IsSound}
 use Rattle.pt_read.specs.Fits.{IsNewDefinition}

@@ -1,6 +1,7 @@
 use Rattle.std.proofs.Common.{◌≡◌, ◌-◌, ℕ, map, filter, take, nat_le, Bool, refl, ap, sym, ◌∙◌}
 use Rattle.pt_read.specs.declared.command.CommandKind.TheVariants as kind
-use Rattle.pt_read.specs.Scope.{Symbol, Assertion, constants_in, popped}
+use Rattle.pt_terms.specs.Names.{Symbol, constants_in}
+use Rattle.pt_read.specs.Scope.{Assertion, popped}
 use Rattle.pt_read.specs.Kept.{shown, shown_assertion}
 use Rattle.pt_read.specs.Lasting.{IsSound}
 use Rattle.pt_read.proofs.SoundLaws.{sound-after}

@@ -1,0 +1,36 @@
+-- Words of the standard: names that cannot be declared, and what the first item of a term calls for.
+use Rattle.pt_grammar.specs.declared.words.Head.{Head}
+use Rattle.pt_grammar.specs.declared.words.Head.TheVariants.{Not, And, Or, Xor, Implies, Distinct, Ite, Plus, Minus, Times, Compare, Let, Exists, Forall, Annotated, LeftOut, Named}
+use Rattle.pt_grammar.specs.declared.words.Relation.TheVariants.{Equal, AtMost, Below, AtLeast, Above}
+use Rattle.std.specs.Prelude.{ℕ, Bool, if◌then◌else◌, List, [], ◌∷◌, map, bytes_eq, codes}
+use Rattle.std.specs.List.{list_any}
+
+abbrev pub Name : Type 0
+Name = List ℕ
+
+abbrev pub is_among : Name → List Name → Bool
+is_among name names = list_any (bytes_eq name) names
+
+-- names that cannot be declared, defined or bound
+abbrev pub reserved : List Name
+reserved =
+    map codes ("_" ∷ "!" ∷ "as" ∷ "let" ∷ "exists" ∷ "forall" ∷ "match" ∷ "par" ∷ "true" ∷ "false" ∷ "not" ∷ "and" ∷ "or" ∷ "xor"
+    ∷ "=>" ∷ "=" ∷ "distinct" ∷ "ite" ∷ "+" ∷ "-" ∷ "*" ∷ "div" ∷ "mod" ∷ "abs" ∷ "<=" ∷ "<" ∷ ">=" ∷ ">" ∷ "divisible" ∷ "Int" ∷ "Bool" ∷ [])
+
+abbrev pub is_reserved : Name → Bool
+is_reserved name = is_among name reserved
+
+abbrev pub head_among : List (Name × Head) → Name → Head
+head_among [] name = Named
+head_among (h ∷ heads) name = if bytes_eq h.0 name then h.1 else head_among heads name
+
+abbrev pub heads : List (Name × Head)
+heads =
+    (codes "not", Not) ∷ (codes "and", And) ∷ (codes "or", Or) ∷ (codes "xor", Xor) ∷ (codes "=>", Implies) ∷ (codes "distinct", Distinct)
+    ∷ (codes "ite", Ite) ∷ (codes "+", Plus) ∷ (codes "-", Minus) ∷ (codes "*", Times)
+    ∷ (codes "=", Compare Equal) ∷ (codes "<=", Compare AtMost) ∷ (codes "<", Compare Below) ∷ (codes ">=", Compare AtLeast) ∷ (codes ">", Compare Above)
+    ∷ (codes "let", Let) ∷ (codes "exists", Exists) ∷ (codes "forall", Forall) ∷ (codes "!", Annotated)
+    ∷ (codes "div", LeftOut) ∷ (codes "mod", LeftOut) ∷ (codes "abs", LeftOut) ∷ (codes "as", LeftOut) ∷ (codes "match", LeftOut) ∷ (codes "par", LeftOut) ∷ (codes "_", LeftOut) ∷ []
+
+abbrev pub head_of : Name → Head
+head_of name = head_among heads name

@@ -1,0 +1,144 @@
+// Words of the standard.
+ghost use Rattle.std.specs.Prelude.{◌≡◌, bytes_eq, map};
+ghost use Rattle.pt_grammar.specs.Words.{head_of, is_reserved, is_among, head_among};
+
+/// A relation of terms of sort Int; the first also of sort Bool.
+#[derive(Clone, Copy, Debug, PartialEq, Eq)]
+pub enum Relation {
+    Equal,
+    AtMost,
+    Below,
+    AtLeast,
+    Above,
+}
+
+/// What the first item of a term calls for.
+#[derive(Clone, Copy, Debug, PartialEq, Eq)]
+pub enum Head {
+    Not,
+    And,
+    Or,
+    Xor,
+    Implies,
+    Distinct,
+    Ite,
+    Plus,
+    Minus,
+    Times,
+    Compare(Relation),
+    Let,
+    Exists,
+    Forall,
+    Annotated,
+    /// A word of the standard that is left out.
+    LeftOut,
+    Named,
+}
+
+/// Whether a name is this word.
+pub fn is(name: &[u8], word: &[u8]) -> bool
+    ensures { result ≡ bytes_eq word.now name.now }
+{
+    word == name
+}
+
+const RESERVED: [&[u8]; 31] = [
+    b"_",
+    b"!",
+    b"as",
+    b"let",
+    b"exists",
+    b"forall",
+    b"match",
+    b"par",
+    b"true",
+    b"false",
+    b"not",
+    b"and",
+    b"or",
+    b"xor",
+    b"=>",
+    b"=",
+    b"distinct",
+    b"ite",
+    b"+",
+    b"-",
+    b"*",
+    b"div",
+    b"mod",
+    b"abs",
+    b"<=",
+    b"<",
+    b">=",
+    b">",
+    b"divisible",
+    b"Int",
+    b"Bool",
+];
+
+/// Whether a name is one of the words.
+fn is_one_of(words: &[&[u8]], name: &[u8]) -> bool
+    ensures { result ≡ is_among name.now (map (λ w. w.now) words.now) }
+{
+    for word in words {
+        if name == *word {
+            return true;
+        }
+    }
+    false
+}
+
+/// Whether a name cannot be declared, defined or bound.
+pub fn is_reserved_word(name: &[u8]) -> bool
+    ensures { result ≡ is_reserved name.now }
+{
+    is_one_of(&RESERVED, name)
+}
+
+const HEADS: [(&[u8], Head); 26] = [
+    (b"not", Head::Not),
+    (b"and", Head::And),
+    (b"or", Head::Or),
+    (b"xor", Head::Xor),
+    (b"=>", Head::Implies),
+    (b"distinct", Head::Distinct),
+    (b"ite", Head::Ite),
+    (b"+", Head::Plus),
+    (b"-", Head::Minus),
+    (b"*", Head::Times),
+    (b"=", Head::Compare(Relation::Equal)),
+    (b"<=", Head::Compare(Relation::AtMost)),
+    (b"<", Head::Compare(Relation::Below)),
+    (b">=", Head::Compare(Relation::AtLeast)),
+    (b">", Head::Compare(Relation::Above)),
+    (b"let", Head::Let),
+    (b"exists", Head::Exists),
+    (b"forall", Head::Forall),
+    (b"!", Head::Annotated),
+    (b"div", Head::LeftOut),
+    (b"mod", Head::LeftOut),
+    (b"abs", Head::LeftOut),
+    (b"as", Head::LeftOut),
+    (b"match", Head::LeftOut),
+    (b"par", Head::LeftOut),
+    (b"_", Head::LeftOut),
+];
+
+/// What the first of the words that is the name calls for.
+fn head_in(words: &[(&[u8], Head)], name: &[u8]) -> Head
+    ensures { result ≡ head_among (map (λ h. (h.0.now, h.1)) words.now) name.now }
+{
+    for word in words {
+        if is(name, word.0) {
+            return word.1;
+        }
+    }
+    Head::Named
+}
+
+/// What a name calls for as the first item of a term.
+pub fn head_of(name: &[u8]) -> Head
+    ensures { result ≡ head_of name.now }
+{
+    head_in(&HEADS, name)
+}

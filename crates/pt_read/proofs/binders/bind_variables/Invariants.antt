@@ -1,8 +1,0 @@
-use Rattle.std.proofs.Common.{◌≡◌, take, map, reverse}
-use Rattle.pt_read.specs.Names.{bind}
-use Rattle.pt_read.specs.Special.{as_bound}
-use Rattle.pt_read.proofs.binders.bind_variables.Given as goal
-
--- the variables so far are bound
-abbrev pub invariant-loop-x : goal.invariant-loop-x
-invariant-loop-x l = l.env ≡ bind (map as_bound (reverse (map (λ x. (x.0.now, x.1)) (take l.x-index l.variables)))) l.fn.env

@@ -1,9 +1,0 @@
-use Rattle.std.proofs.Common.{◌<◌, ap, length}
-use Rattle.pt_read.proofs.BelowLemmas.{made_exists_below}
-use Rattle.pt_read.proofs.elaborator.Elaborator.exists.Goals as goal
-
-pub invariant_of-self : goal.invariant_of-self
-invariant_of-self c =
-    let a : c.args.a < length c.self.inside.formula = rw (ap (λ w. length w.formula) c.self.view_is) c.requires.a in
-    let v : c.args.v < c.self.inside.given = rw (ap (λ w. w.given) c.self.view_is) c.requires.v in
-    made_exists_below c.appended_nodes_keep_variables_below.ensures c.args.v c.args.a c.args.at _ _ _ c.self.inside.given c.len-before.ensures.formula c.len-after.ensures.formula c.self.invariant a v c.exists-made.ensures

@@ -1,8 +1,0 @@
-use Rattle.pt_read.proofs.Marks.{AreMarked}
-use Rattle.pt_read.proofs.elaborator.Elaborator.marks.Given as goal
-
--- the nodes that are looked at have set the marks of their children
-abbrev pub invariant-loop-k : goal.invariant-loop-k
-invariant-loop-k l = record {
-  marked : AreMarked l.self.formula l.fn.body l.k l.marks.items;
-}

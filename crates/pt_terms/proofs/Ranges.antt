@@ -1,0 +1,64 @@
+-- What is in the range of the work stays so while it grows.
+use Rattle.std.proofs.Common.{◌≡◌, ℕ, ◌<◌, ◌≤◌, List, [], ◌∷◌, length, All, slice_index_or, get_or, sym, subst, Option, Some, None, IfSome, arith}
+use Rattle.std.specs.List.{AllByRecursion}
+use Rattle.pt_formula.specs.Forms.{Term}
+use Rattle.pt_formula.specs.declared.form.Form.{Form}
+use Rattle.pt_terms.specs.declared.meaning.Meaning.{Meaning}
+use Rattle.pt_terms.specs.declared.meaning.Meaning.TheVariants.{Int, Bool as Truth}
+use Rattle.pt_terms.specs.Elaboration.{Work}
+use Rattle.pt_terms.specs.Gives.{Grows}
+use Rattle.pt_grammar.specs.Words.{Name}
+use Rattle.pt_terms.specs.Names.{Use, Constant_of, Defined, Symbol}
+use Rattle.pt_terms.specs.Names.{Env}
+use Rattle.pt_terms.specs.Theory.{Argument}
+use Rattle.pt_terms.specs.Sound.{AreTermsBelow, IsFormBelow, IsMeaningIn, IsUseIn, IsEnvIn}
+
+terms_more : (a b : ℕ) (ts : List Term) → a ≤ b → AreTermsBelow a ts → AreTermsBelow b ts
+terms_more a b [] le h = tt
+terms_more a b (t ∷ ts) le h = (omega (arith, h.0), terms_more a b ts le h.1)
+
+pub form_more : (v w : Work) (f : Form) → Grows v w → IsFormBelow v.given f → IsFormBelow w.given f
+form_more v w f g h = (h.0, terms_more v.given w.given f.terms g.given h.1)
+
+pub form_parts : (v : Work) (f : Form) → IsFormBelow v.given f → IsMeaningIn v (Int f)
+form_parts v f h = h
+
+pub node_more : (v w : Work) (i : ℕ) → Grows v w → i < length v.formula → i < length w.formula
+node_more v w i g h = omega arith
+
+pub meaning_more : (v w : Work) (m : Meaning) → Grows v w → IsMeaningIn v m → IsMeaningIn w m
+meaning_more v w (Int f) g h = form_more v w f g h
+meaning_more v w (Truth i) g h = omega arith
+
+pub so_far_more : (v w : Work) (i : Option ℕ) → Grows v w → IfSome i (λ i. i < length v.formula) → IfSome i (λ i. i < length w.formula)
+so_far_more v w None g h = tt
+so_far_more v w (Some i) g h = omega (arith, h)
+
+pub nodes_more : (v w : Work) (xs : List ℕ) → Grows v w → All (λ i. i < length v.formula) xs → All (λ i. i < length w.formula) xs
+nodes_more v w xs g h = λ k d lt. let below : slice_index_or xs k d < length v.formula = h k d lt in omega arith
+
+pub forms_more : (v w : Work) {B : Type 0} (form : B → Form) (fs : List B) → Grows v w → All (λ f. IsFormBelow v.given (form f)) fs → All (λ f. IsFormBelow w.given (form f)) fs
+forms_more v w form fs g h = λ k d lt. form_more v w (form (slice_index_or fs k d)) g (h k d lt)
+
+pub arguments_more : (v w : Work) (xs : List Argument) → Grows v w → All (λ (a : Argument). IsMeaningIn v a.1) xs → All (λ (a : Argument). IsMeaningIn w a.1) xs
+arguments_more v w xs g h = λ k d lt. meaning_more v w (slice_index_or xs k d).1 g (h k d lt)
+
+all_more : {X : Type 0} (P Q : X → Type 0) (xs : List X) → ((x : X) → P x → Q x) → AllByRecursion P xs → AllByRecursion Q xs
+all_more P Q [] f h = tt
+all_more P Q (x ∷ xs) f h = (f x h.0, all_more P Q xs f h.1)
+
+pub use_more : (v w : Work) (u : Use) → Grows v w → IsUseIn v u → IsUseIn w u
+use_more v w (Constant_of k) g h = omega arith
+use_more v w (Defined ps m) g h = (meaning_more v w m g h.0, all_more (λ k. k < v.given) (λ k. k < w.given) ps (λ k lt. omega arith) h.1)
+
+pub env_more : (v w : Work) (env : Env) → Grows v w → IsEnvIn v env → IsEnvIn w env
+env_more v w env g h = record {
+  bound = all_more (λ (b : Name × Meaning). IsMeaningIn v b.1) (λ (b : Name × Meaning). IsMeaningIn w b.1) env.bound (λ b k. meaning_more v w b.1 g k) h.bound;
+  live = all_more (λ (s : Symbol). IsUseIn v s.stands_for) (λ (s : Symbol). IsUseIn w s.stands_for) env.live (λ s k. use_more v w s.stands_for g k) h.live;
+}
+
+pub ruleset ranges = (form_more, node_more, meaning_more, so_far_more, nodes_more, forms_more, arguments_more, use_more, env_more)
+
+-- what all have, the item at a place has
+pub All-item : {X : Type 0} (P : X → Type 0) (xs : List X) (k : ℕ) (x : X) → k < length xs → x ≡ get_or xs k x → All P xs → P x
+All-item P xs k x lt is h = subst P (sym is) (h k x lt)

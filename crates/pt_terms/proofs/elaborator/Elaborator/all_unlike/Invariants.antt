@@ -1,0 +1,17 @@
+use Rattle.std.proofs.Common.{◌≡◌, ◌<◌, ℕ, All, IfSome, drop, length}
+use Rattle.pt_formula.specs.declared.node.Node.TheVariants as node
+use Rattle.pt_terms.specs.Elaboration.{◌>>=◌, make}
+use Rattle.pt_terms.specs.Theory.{conjunction, later_pairs}
+use Rattle.pt_terms.specs.Chains.{run, close}
+use Rattle.pt_terms.specs.Gives.{Grows}
+use Rattle.pt_terms.proofs.elaborator.Elaborator.all_unlike.Given as goal
+
+-- the pairs that are left, after the node so far, give what all pairs give
+abbrev pub invariant-loop-i : goal.invariant-loop-i
+invariant-loop-i l = record {
+  told : (run (λ (ab : ℕ × ℕ). make (node.Xor ab.0 ab.1) l.at) l.at l.so_far (later_pairs (drop l.i l.nodes)) >>= close l.at) l.self
+      ≡ conjunction (λ (ab : ℕ × ℕ). make (node.Xor ab.0 ab.1) l.fn.at) l.fn.at (later_pairs l.fn.nodes) l.fn.self;
+  range : IfSome l.so_far (λ i. i < length l.self.formula);
+  nodes : All (λ i. i < length l.self.formula) l.nodes;
+  grows : Grows l.fn.self l.self;
+}

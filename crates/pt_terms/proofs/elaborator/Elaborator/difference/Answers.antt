@@ -1,0 +1,5 @@
+use Rattle.pt_terms.proofs.BelowForms.{below_difference}
+use Rattle.pt_terms.proofs.elaborator.Elaborator.difference.Goals as goal
+
+pub returns-in-Ok-clause-range : goal.returns-in-Ok-clause-range
+returns-in-Ok-clause-range c = (rw c.in-Ok.ensures.0 c.in-Ok.ensures.1, below_difference _ _ c.args.a.now c.args.b.now c.in-Ok.ensures.0 c.requires.a.1 c.requires.b.1)

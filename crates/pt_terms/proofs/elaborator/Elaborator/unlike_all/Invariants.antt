@@ -1,0 +1,17 @@
+use Rattle.std.proofs.Common.{◌≡◌, ◌<◌, ℕ, All, IfSome, drop, map, length}
+use Rattle.pt_formula.specs.declared.node.Node.TheVariants as node
+use Rattle.pt_terms.specs.Elaboration.{make}
+use Rattle.pt_terms.specs.Chains.{run}
+use Rattle.pt_terms.specs.Gives.{Grows}
+use Rattle.pt_terms.proofs.elaborator.Elaborator.unlike_all.Given as goal
+
+-- the pairs that are left, after the node so far, give what all pairs give
+abbrev pub invariant-loop-i : goal.invariant-loop-i
+invariant-loop-i l = record {
+  told : run (λ (ab : ℕ × ℕ). make (node.Xor ab.0 ab.1) l.at) l.at l.so_far (map (λ j. (l.first, j)) (drop l.i-index l.rest)) l.self
+      ≡ run (λ (ab : ℕ × ℕ). make (node.Xor ab.0 ab.1) l.fn.at) l.fn.at l.fn.so_far (map (λ j. (l.fn.first, j)) l.fn.rest) l.fn.self;
+  range : IfSome l.so_far (λ i. i < length l.self.formula);
+  first : l.first < length l.self.formula;
+  rest : All (λ i. i < length l.self.formula) l.rest;
+  grows : Grows l.fn.self l.self;
+}

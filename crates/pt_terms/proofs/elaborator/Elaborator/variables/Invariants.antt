@@ -1,0 +1,12 @@
+use Rattle.std.proofs.Common.{◌≡◌, ◌<◌, [], All, drop, map, reverse}
+use Rattle.pt_terms.specs.Terms.{variables}
+use Rattle.pt_terms.specs.Gives.{Grows}
+use Rattle.pt_terms.proofs.elaborator.Elaborator.variables.Given as goal
+
+-- what is left, after those that are found, gives what all give
+abbrev pub invariant-loop-e : goal.invariant-loop-e
+invariant-loop-e l = record {
+  told : variables (reverse (map (λ x. (x.0.now, x.1)) l.found.items)) (drop l.e-index l.es) l.self ≡ variables [] l.fn.es l.fn.self;
+  range : All (λ x. x.1 < l.self.given) l.found.items;
+  grows : Grows l.fn.self l.self;
+}

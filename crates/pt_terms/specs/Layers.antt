@@ -1,0 +1,29 @@
+-- Parts of terms: a symbol as a term of its own, bindings and quantifiers whose form is right.
+use Rattle.std.specs.Prelude.{Bool, if◌then◌else◌, List, [], map, bytes_eq, codes}
+use Rattle.pt_formula.specs.declared.node.Node.TheVariants as node
+use Rattle.pt_formula.specs.declared.node.Position.{Position}
+use Rattle.pt_terms.specs.declared.meaning.Meaning.{Meaning}
+use Rattle.pt_syntax.specs.declared.sexpr.SExpr.{SExpr}
+use Rattle.pt_terms.specs.Elaboration.{Elab, give, ◌>>=◌, make}
+use Rattle.pt_terms.specs.Terms.{bindable, bindings, variables, as_bound, quantified}
+use Rattle.pt_grammar.specs.Exprs.{items_or_none}
+use Rattle.pt_grammar.specs.Words.{Name}
+use Rattle.pt_terms.specs.Names.{Env, bind, look_up, plain_use}
+use Rattle.pt_grammar.specs.Exprs.{items_of, place_of}
+use Rattle.pt_terms.specs.Theory.{as_truth, truth_of}
+
+abbrev pub symbol_term : Env → Position → Name → Elab Meaning
+symbol_term env p name =
+    if bytes_eq name (codes "true") then as_truth (make node.True p)
+    else if bytes_eq name (codes "false") then as_truth (make node.False p)
+    else plain_use p (look_up env name)
+
+abbrev pub pair : (SExpr → Elab Meaning) → List Name → SExpr → SExpr → Elab (Name × Meaning)
+pair term taken s e = bindable taken s >>= λ name. term e >>= λ m. give (name, m)
+
+abbrev pub let_parts : (Env → SExpr → Elab Meaning) → Env → SExpr → SExpr → Elab Meaning
+let_parts term env list body = bindings (term env) [] (items_or_none (items_of list)) >>= λ bs. term (bind bs env) body
+
+abbrev pub quantifier_parts : (Env → SExpr → Elab Meaning) → Env → Bool → Position → SExpr → SExpr → Elab Meaning
+quantifier_parts term env is_exists p list body =
+    variables [] (items_or_none (items_of list)) >>= λ xs. term (bind (map as_bound xs) env) body >>= λ m. truth_of (place_of body) m >>= λ a. as_truth (quantified is_exists p xs a)

@@ -1,0 +1,14 @@
+pub mod Elaboration
+pub mod Names
+pub mod Theory
+pub mod Terms
+pub mod Symbols
+pub mod Bindings
+pub mod Environment
+pub mod Sound
+pub mod Gives
+pub mod Below
+pub mod Chains
+pub mod Layers
+pub mod Copies
+pub mod Free

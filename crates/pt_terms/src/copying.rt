@@ -1,0 +1,209 @@
+// Copies of nodes with forms in the places of parameters.
+ghost use Rattle.std.specs.Prelude.{◌≡◌, ◌^◌, ◌<◌, ◌≤ℤ◌, ℤ};
+ghost use Rattle.pt_atoms.specs.Atoms.{IsModulus};
+ghost use Rattle.pt_terms.specs.Theory.{new_constant};
+
+use crate::arithmetic::form_of_number;
+use crate::elaborator::Elaborator;
+use crate::refusals::no_memory;
+use pt_formula::{Form, Kind, Node, Op, Position};
+use pt_syntax::ReadRefusal;
+use std::alloc::Global;
+
+/// The constant of a copied atom.
+fn constant_of(kind: Kind, constant: i128) -> i128
+    requires { IsModulus kind }
+    ensures { result ≡ new_constant kind constant }
+{
+    match kind {
+        Kind::Mod(m) => constant.rem_euclid(i128::from(m)),
+        Kind::Eq | Kind::Le => constant,
+    }
+}
+
+impl Elaborator {
+    ghost use Rattle.std.specs.Prelude.{◌≡◌, ◌<◌, ◌≤◌, ◌-ℤ◌, [], length, IfOk, map, zip, All};
+    ghost use Rattle.pt_formula.specs.declared.node.Node.TheVariants as node;
+    ghost use Rattle.pt_formula.specs.Formulas.{node_at};
+    ghost use Rattle.pt_atoms.specs.Atoms.{IsModulus};
+    ghost use Rattle.pt_terms.specs.Theory.{atom, new_constant, copy};
+    ghost use Rattle.pt_terms.specs.Copies.{copied_node, next_number, numbered, new_number};
+    ghost use Rattle.pt_terms.specs.Gives.{Gives, Grows};
+    ghost use Rattle.pt_terms.specs.Sound.{IsFormBelow, AreTermsBelow};
+
+    /// The new number of a node; a node without one stands for itself.
+    fn new_number(&self, numbers: &[u32], i: u32) -> u32
+        requires numbers { All (λ j. j < length self.now.formula) numbers.now }
+        requires i { i < length self.now.formula }
+        ensures is { result ≡ new_number numbers.now i }
+        ensures range { result < length self.now.formula }
+    {
+        match numbers.get(i as usize) {
+            Some(j) => *j,
+            None => i,
+        }
+    }
+
+    /// The copy of an atom, whose terms have become a form.
+    fn copy_atom(
+        &mut self,
+        alloc: Global,
+        at: Position,
+        kind: Kind,
+        constant: i64,
+        g: &Form,
+    ) -> Result<u32, ReadRefusal>
+        requires kind { IsModulus kind }
+        requires g { IsFormBelow self.old.given g.now }
+        ensures gives { Gives (λ i. i) result self.old self.new (atom at kind g.now.terms (new_constant kind (constant -ℤ g.now.constant))) }
+        ensures range { IfOk result (λ i. i < length self.new.formula) }
+        ensures grows { Grows self.old self.new }
+    {
+        let new = constant_of(kind, i128::from(constant) - i128::from(g.constant));
+        self.relation_atom(alloc, kind, g.terms.as_slice(), new, at)
+    }
+
+    /// The copy of a node, made of the copies of its children.
+    fn copy_node(
+        &mut self,
+        alloc: Global,
+        at: Position,
+        parameters: &[u32],
+        forms: &[&Form],
+        numbers: &[u32],
+        i: u32,
+    ) -> Result<u32, ReadRefusal>
+        requires i { i < length self.old.formula }
+        requires forms { All (λ f. IsFormBelow self.old.given f.now) forms.now }
+        requires numbers { All (λ j. j < length self.old.formula) numbers.now }
+        ensures gives { Gives (λ i. i) result self.old self.new (copied_node at (zip parameters.now (map (λ f. f.now) forms.now)) (new_number numbers.now) (node_at self.old.formula i)) }
+        ensures range { IfOk result (λ i. i < length self.new.formula) }
+        ensures grows { Grows self.old self.new }
+    {
+        match self.node(i) {
+            Node::True => self.truth(alloc, true, at),
+            Node::False => self.truth(alloc, false, at),
+            Node::Atom {
+                kind,
+                terms,
+                constant,
+            } => {
+                let kind = *kind;
+                let constant = *constant;
+                let zero = form_of_number(alloc, 0);
+                let g = self.substituted(alloc, at, parameters, forms, zero, terms.as_slice())?;
+                self.copy_atom(alloc, at, kind, constant, &g)
+            }
+            Node::Not(a) => {
+                let a = self.new_number(numbers, *a);
+                self.not(alloc, a, at)
+            }
+            Node::And(a, b) => {
+                let a = self.new_number(numbers, *a);
+                let b = self.new_number(numbers, *b);
+                self.binary(alloc, Op::And, a, b, at)
+            }
+            Node::Or(a, b) => {
+                let a = self.new_number(numbers, *a);
+                let b = self.new_number(numbers, *b);
+                self.binary(alloc, Op::Or, a, b, at)
+            }
+            Node::Iff(a, b) => {
+                let a = self.new_number(numbers, *a);
+                let b = self.new_number(numbers, *b);
+                self.binary(alloc, Op::Iff, a, b, at)
+            }
+            Node::Xor(a, b) => {
+                let a = self.new_number(numbers, *a);
+                let b = self.new_number(numbers, *b);
+                self.binary(alloc, Op::Xor, a, b, at)
+            }
+            Node::Exists(v, a) => {
+                let v = *v;
+                let a = self.new_number(numbers, *a);
+                self.exists(alloc, v, a, at)
+            }
+        }
+    }
+
+    /// The new number of the next node: that of its copy where it is marked.
+    fn copy_next(
+        &mut self,
+        alloc: Global,
+        at: Position,
+        parameters: &[u32],
+        forms: &[&Form],
+        numbers: &[u32],
+        mark: bool,
+        i: u32,
+    ) -> Result<u32, ReadRefusal>
+        requires i { i < length self.old.formula }
+        requires place { i ≡ length numbers.now }
+        requires forms { All (λ f. IsFormBelow self.old.given f.now) forms.now }
+        requires numbers { All (λ j. j < length self.old.formula) numbers.now }
+        ensures gives { Gives (λ j. j) result self.old self.new (next_number at (zip parameters.now (map (λ f. f.now) forms.now)) self.old.formula numbers.now mark) }
+        ensures range { IfOk result (λ j. j < length self.new.formula) }
+        ensures grows { Grows self.old self.new }
+    {
+        if mark {
+            self.copy_node(alloc, at, parameters, forms, numbers, i)
+        } else {
+            Ok(i)
+        }
+    }
+
+    /// The new numbers of the nodes that have marks.
+    fn copy_nodes(
+        &mut self,
+        alloc: Global,
+        at: Position,
+        parameters: &[u32],
+        forms: &[&Form],
+        marks: &[bool],
+        count: u32,
+    ) -> Result<Vec<u32>, ReadRefusal>
+        requires marks { length marks.now ≡ count }
+        requires count { count ≤ length self.old.formula }
+        requires forms { All (λ f. IsFormBelow self.old.given f.now) forms.now }
+        ensures gives { Gives (λ v. v.items) result self.old self.new (numbered at (zip parameters.now (map (λ f. f.now) forms.now)) self.old.formula [] marks.now) }
+        ensures range { IfOk result (λ v. All (λ j. j < length self.new.formula) v.items) }
+        ensures grows { Grows self.old self.new }
+    {
+        let mut numbers = Vec::new(alloc);
+        for i in 0..count {
+            let mark = marks[i as usize];
+            match self.copy_next(alloc, at, parameters, forms, numbers.as_slice(), mark, i) {
+                Ok(j) => {
+                    if numbers.push(j).is_err() {
+                        return Err(no_memory());
+                    }
+                }
+                Err(refusal) => return Err(refusal),
+            }
+        }
+        Ok(numbers)
+    }
+
+    /// The copy of a node with all that it reaches, in order of their numbers. Linear in the number of the node, and in the sizes of the copied nodes.
+    pub(crate) fn copy(
+        &mut self,
+        alloc: Global,
+        at: Position,
+        parameters: &[u32],
+        forms: &[&Form],
+        body: u32,
+    ) -> Result<u32, ReadRefusal>
+        requires body { body < length self.old.formula }
+        requires forms { All (λ f. IsFormBelow self.old.given f.now) forms.now }
+        ensures gives { Gives (λ i. i) result self.old self.new (copy at (zip parameters.now (map (λ f. f.now) forms.now)) body) }
+        ensures range { IfOk result (λ i. i < length self.new.formula) }
+        ensures grows { Grows self.old self.new }
+    {
+        let _whole = self.formula().len();
+        let marks = self.marks(alloc, body)?;
+        match self.copy_nodes(alloc, at, parameters, forms, marks.as_slice(), body + 1) {
+            Ok(numbers) => Ok(self.new_number(numbers.as_slice(), body)),
+            Err(refusal) => return Err(refusal),
+        }
+    }
+}

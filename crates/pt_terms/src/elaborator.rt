@@ -1,0 +1,227 @@
+// The formula that elaboration adds to.
+ghost use Rattle.std.specs.Prelude.{◌<◌, ℕ, List, [], ◌∷◌, ◌++◌};
+ghost use Rattle.std.specs.List.{AllByRecursion};
+ghost use Rattle.pt_formula.specs.declared.node.Node.{Node as NodeValue};
+ghost use Rattle.pt_formula.specs.declared.node.Position.{Position as PositionValue};
+ghost use Rattle.pt_formula.specs.Truth.{free_variables};
+ghost use Rattle.pt_formula.specs.Formulas.{node_tree, tree_of, IsFormula};
+ghost use Rattle.pt_terms.specs.Sound.{AreBelow};
+ghost use Rattle.pt_terms.specs.Below.{BindsBelow};
+
+use crate::refusals::{builder_refusal, no_memory};
+use pt_digits::NoMemory;
+use pt_formula::laws::{
+    appended_nodes_change_no_earlier_one, trees_are_made_of_those_of_the_children,
+};
+use pt_formula::{Formula, Kind, Node, Op, Position};
+use pt_syntax::ReadRefusal;
+use std::alloc::Global;
+use std::marker::Model;
+
+/// A node that is appended keeps all variables of a formula below a number, where its own are.
+fn appended_nodes_keep_variables_below()
+    ensures { (f : List (NodeValue × PositionValue)) (n : NodeValue) (p : PositionValue) (given : ℕ) → IsFormula f → IsFormula (f ++ (n, p) ∷ []) → AreBelow f given → AllByRecursion (λ v. v < given) (free_variables (node_tree (tree_of f) n)) → BindsBelow given n → AreBelow (f ++ (n, p) ∷ []) given }
+{
+    appended_nodes_change_no_earlier_one();
+    trees_are_made_of_those_of_the_children();
+}
+
+/// A formula that grows, and how many variable numbers have been given out. Each variable that is free in a node or bound by one has
+/// been given out.
+#[derive(Drop)]
+pub struct Elaborator {
+    formula: Formula,
+    given: u32,
+}
+
+impl Model for Elaborator {
+    ghost use Rattle.pt_terms.specs.Elaboration.{Work};
+
+    ghost Value = { Work };
+
+    ghost use Rattle.pt_terms.specs.Sound.{AreBelow};
+
+    ghost view = { λ e. record { formula = e.formula; given = e.given } };
+
+    ghost invariant = { λ e. AreBelow e.formula e.given };
+}
+
+/// Each call adds at most one node or one variable number. After a refusal nothing has changed.
+impl Elaborator {
+    ghost use Rattle.std.specs.Prelude.{◌≡◌, ◌<◌, ◌≤◌, length, pos, IfOk};
+    ghost use Rattle.pt_atoms.specs.Atoms.{IsModulus};
+    ghost use Rattle.pt_formula.specs.Forms.{AreTerms};
+    ghost use Rattle.pt_formula.specs.Formulas.{start, truth_node, op_node, IsFormula};
+    ghost use Rattle.pt_formula.specs.declared.node.Node.TheVariants as node;
+    ghost use Rattle.pt_terms.specs.Elaboration.{make, make_exists, fresh};
+    ghost use Rattle.pt_terms.specs.Gives.{Gives, Grows};
+    ghost use Rattle.pt_terms.specs.Sound.{AreTermsBelow};
+
+    /// Node 0 alone, and no variable number given.
+    pub fn new(alloc: Global) -> Result<Elaborator, NoMemory>
+        ensures { IfOk result (λ e. e ≡ record { formula = start; given = 0 }) }
+    {
+        let formula = Formula::new(alloc)?;
+        Ok(Elaborator { formula, given: 0 })
+    }
+
+    pub fn formula(&self) -> &Formula
+        ensures value { result.now ≡ self.now.formula }
+        ensures below { AreBelow self.now.formula self.now.given }
+    {
+        &self.formula
+    }
+
+    pub fn given(&self) -> u32
+        ensures { result ≡ self.now.given }
+    {
+        self.given
+    }
+
+    /// A node True or False.
+    pub(crate) fn truth(
+        &mut self,
+        alloc: Global,
+        value: bool,
+        at: Position,
+    ) -> Result<u32, ReadRefusal>
+        ensures gives { Gives (λ i. i) result self.old self.new (make (truth_node value) at) }
+        ensures range { IfOk result (λ i. i < length self.new.formula) }
+        ensures grows { Grows self.old self.new }
+    {
+        appended_nodes_keep_variables_below();
+        let _before = self.formula.len();
+        let made = self.formula.truth(alloc, value, at);
+        let _after = self.formula.len();
+        match made {
+            Ok(id) => Ok(id),
+            Err(fault) => Err(builder_refusal(fault, at)),
+        }
+    }
+
+    /// The node of an atom with at least one term.
+    pub(crate) fn atom(
+        &mut self,
+        alloc: Global,
+        kind: Kind,
+        terms: &[(u32, i64)],
+        constant: i64,
+        at: Position,
+    ) -> Result<u32, ReadRefusal>
+        requires some { 0 < length terms.now }
+        requires terms { AreTerms terms.now }
+        requires below { AreTermsBelow self.old.given terms.now }
+        requires kind { IsModulus kind }
+        ensures gives { Gives (λ i. i) result self.old self.new (make (node.Atom kind terms.now constant) at) }
+        ensures range { IfOk result (λ i. i < length self.new.formula) }
+        ensures grows { Grows self.old self.new }
+    {
+        appended_nodes_keep_variables_below();
+        let _before = self.formula.len();
+        let made = self.formula.atom(alloc, kind, terms, constant, at);
+        let _after = self.formula.len();
+        match made {
+            Ok(id) => Ok(id),
+            Err(fault) => Err(builder_refusal(fault, at)),
+        }
+    }
+
+    /// The negation of a node.
+    pub(crate) fn not(&mut self, alloc: Global, a: u32, at: Position) -> Result<u32, ReadRefusal>
+        requires a { a < length self.old.formula }
+        ensures gives { Gives (λ i. i) result self.old self.new (make (node.Not a) at) }
+        ensures range { IfOk result (λ i. i < length self.new.formula) }
+        ensures grows { Grows self.old self.new }
+    {
+        appended_nodes_keep_variables_below();
+        let _before = self.formula.len();
+        let made = self.formula.not(alloc, a, at);
+        let _after = self.formula.len();
+        match made {
+            Ok(id) => Ok(id),
+            Err(fault) => Err(builder_refusal(fault, at)),
+        }
+    }
+
+    /// Two nodes joined by an operation.
+    pub fn binary(
+        &mut self,
+        alloc: Global,
+        op: Op,
+        a: u32,
+        b: u32,
+        at: Position,
+    ) -> Result<u32, ReadRefusal>
+        requires a { a < length self.old.formula }
+        requires b { b < length self.old.formula }
+        ensures gives { Gives (λ i. i) result self.old self.new (make (op_node op a b) at) }
+        ensures range { IfOk result (λ i. i < length self.new.formula) }
+        ensures grows { Grows self.old self.new }
+    {
+        appended_nodes_keep_variables_below();
+        let _before = self.formula.len();
+        let made = self.formula.binary(alloc, op, a, b, at);
+        let _after = self.formula.len();
+        match made {
+            Ok(id) => Ok(id),
+            Err(fault) => Err(builder_refusal(fault, at)),
+        }
+    }
+
+    /// A quantifier over a variable; the node itself where the variable is not free in it.
+    pub(crate) fn exists(
+        &mut self,
+        alloc: Global,
+        v: u32,
+        a: u32,
+        at: Position,
+    ) -> Result<u32, ReadRefusal>
+        requires a { a < length self.old.formula }
+        requires v { v < self.old.given }
+        ensures gives { Gives (λ i. i) result self.old self.new (make_exists v a at) }
+        ensures range { IfOk result (λ i. i < length self.new.formula) }
+        ensures grows { Grows self.old self.new }
+    {
+        appended_nodes_keep_variables_below();
+        let _before = self.formula.len();
+        let made = self.formula.exists(alloc, v, a, at);
+        let _after = self.formula.len();
+        match made {
+            Ok(id) => Ok(id),
+            Err(fault) => Err(builder_refusal(fault, at)),
+        }
+    }
+
+    /// The next variable number. Where all 2^32 - 1 are given out, which no text is long enough for, that is want of memory.
+    pub fn fresh(&mut self) -> Result<u32, ReadRefusal>
+        ensures gives { Gives (λ v. v) result self.old self.new fresh }
+        ensures range { IfOk result (λ v. v < self.new.given) }
+        ensures grows { Grows self.old self.new }
+    {
+        let v = self.given;
+        if v == u32::MAX {
+            return Err(no_memory());
+        }
+        self.given = v + 1;
+        Ok(v)
+    }
+}
+
+/// Readers of nodes.
+impl Elaborator {
+    ghost use Rattle.std.specs.Prelude.{◌≡◌, ◌<◌, length};
+    ghost use Rattle.pt_formula.specs.Formulas.{node_at};
+    ghost use Rattle.pt_terms.specs.Copies.{IsNodeBelow};
+
+    /// The node of this number.
+    pub(crate) fn node(&self, i: u32) -> &Node
+        requires { i < length self.now.formula }
+        ensures is { result.now ≡ node_at self.now.formula i }
+        ensures range { IsNodeBelow self.now.given i result.now }
+    {
+        trees_are_made_of_those_of_the_children();
+        let _inside = &self.formula;
+        let _whole = self.formula.len();
+        self.formula.node(i)
+    }
+}

@@ -1,0 +1,156 @@
+// What terms see.
+ghost use Rattle.std.specs.Prelude.{◌≡◌, ◌≤◌, ◌∷◌, [], length, IfOk, OnOk};
+ghost use Rattle.pt_terms.specs.Names.{Env, bind, look_up, plain_use, head_use};
+ghost use Rattle.pt_terms.specs.Environment.{outermost, inside};
+ghost use Rattle.pt_terms.specs.Elaboration.{Work};
+ghost use Rattle.pt_terms.specs.Gives.{Says};
+ghost use Rattle.pt_terms.specs.Sound.{IsMeaningIn, IsEnvIn};
+ghost use Rattle.std.specs.Prelude.{option_map, IfSome};
+ghost use Rattle.pt_terms.specs.Elaboration.{give};
+ghost use Rattle.pt_terms.specs.Symbols.{shown_use};
+ghost use Rattle.pt_terms.specs.Sound.{IsUseIn};
+
+use crate::arithmetic::{copy_of_meaning, form_of_variable};
+use crate::bindings::Bindings;
+use crate::meaning::Meaning;
+use crate::refusals::{no_memory, refused};
+use crate::symbols::{Symbols, Use};
+use pt_digits::NoMemory;
+use pt_syntax::{Position, ReadKind, ReadRefusal};
+use std::alloc::Global;
+use std::marker::Model;
+
+/// Names that are bound in a term, in front of the live names. A look-up is at most two hashes.
+#[derive(Drop)]
+pub struct Environment<'s> {
+    bound: Bindings,
+    live: &'s Symbols,
+}
+
+impl<'s> Model for Environment<'s> {
+    ghost use Rattle.pt_terms.specs.Names.{Env};
+
+    ghost Value = { Env };
+
+    ghost view = { λ e. record { bound = e.bound; live = e.live.now } };
+}
+
+impl<'s> Environment<'s> {
+    /// The live names alone.
+    pub fn new(alloc: Global, live: &'s Symbols) -> Environment<'s>
+        ensures { result ≡ outermost live.now }
+    {
+        Environment {
+            bound: Bindings::new(alloc),
+            live,
+        }
+    }
+
+    /// How many names are bound.
+    pub(crate) fn len(&self) -> usize
+        ensures { result ≡ length self.now.bound }
+    {
+        self.bound.len()
+    }
+
+    /// Takes the innermost names away, up to the number that stays.
+    pub(crate) fn truncate(&mut self, len: usize)
+        requires { len ≤ length self.old.bound }
+        ensures { self.new ≡ inside len self.old }
+    {
+        self.bound.truncate(len);
+    }
+
+    /// Binds a name.
+    pub(crate) fn bind(
+        &mut self,
+        alloc: Global,
+        name: &[u8],
+        meaning: Meaning,
+    ) -> Result<(), NoMemory>
+        ensures { OnOk result (self.new ≡ bind ((name.now, meaning) ∷ []) self.old) }
+    {
+        self.bound.push(alloc, name, meaning)
+    }
+
+    /// Binds all these names.
+    pub fn bind_all(&mut self, alloc: Global, inner: &Bindings) -> Result<(), NoMemory>
+        ensures { OnOk result (self.new ≡ bind inner.now self.old) }
+    {
+        self.bound.append(alloc, inner)
+    }
+
+    /// The definition that a name stands for as the head of an application.
+    pub(crate) fn head(
+        &self,
+        name: &[u8],
+        at: Position,
+    ) -> Result<(&'s [u32], &'s Meaning), ReadRefusal>
+        ensures says { Says (λ d. (d.0.now, d.1.now)) result (head_use at (look_up self.now name.now)) }
+        ensures range { (w : Work) → IsEnvIn w self.now → IfOk result (λ d. IsMeaningIn w d.1.now) }
+    {
+        if self.bound.has(name) {
+            return Err(refused(ReadKind::Sort, at));
+        }
+        let live: &'s Symbols = self.live;
+        match live.find(name) {
+            None => Err(refused(ReadKind::Unknown, at)),
+            Some(Use::Constant(_)) => Err(refused(ReadKind::Sort, at)),
+            Some(Use::Definition(parameters, meaning)) => {
+                if parameters.is_empty() {
+                    Err(refused(ReadKind::Sort, at))
+                } else {
+                    Ok((parameters.as_slice(), meaning))
+                }
+            }
+        }
+    }
+
+    /// What a name stands for as a term of its own.
+    pub(crate) fn plain(
+        &self,
+        alloc: Global,
+        name: &[u8],
+        at: Position,
+    ) -> Result<Meaning, ReadRefusal>
+        ensures says { Says (λ m. m) result (plain_use at (look_up self.now name.now)) }
+        ensures range { (w : Work) → IsEnvIn w self.now → IfOk result (λ m. IsMeaningIn w m) }
+    {
+        match self.bound.find(name) {
+            Some(meaning) => copy_of(alloc, meaning),
+            None => live_use(alloc, self.live.find(name), at),
+        }
+    }
+}
+
+/// The same meaning once more.
+fn copy_of(alloc: Global, meaning: &Meaning) -> Result<Meaning, ReadRefusal>
+    ensures says { Says (λ m. m) result (give meaning.now) }
+    ensures same { IfOk result (λ m. m ≡ meaning.now) }
+{
+    match copy_of_meaning(alloc, meaning) {
+        Ok(copy) => Ok(copy),
+        Err(_) => Err(no_memory()),
+    }
+}
+
+/// What a live name stands for as a term of its own.
+fn live_use(alloc: Global, found: Option<&Use>, at: Position) -> Result<Meaning, ReadRefusal>
+    ensures says { Says (λ m. m) result (plain_use at (option_map (λ u. shown_use u.now) found.entry)) }
+    ensures range { (w : Work) → IfSome found.entry (λ u. IsUseIn w (shown_use u.now)) → IfOk result (λ m. IsMeaningIn w m) }
+{
+    match found {
+        None => Err(refused(ReadKind::Unknown, at)),
+        Some(Use::Constant(v)) => match form_of_variable(alloc, *v) {
+            Ok(f) => Ok(Meaning::Int(f)),
+            Err(_) => Err(no_memory()),
+        },
+        Some(Use::Definition(parameters, meaning)) => {
+            if parameters.is_empty() {
+                copy_of(alloc, meaning)
+            } else {
+                Err(refused(ReadKind::Sort, at))
+            }
+        }
+    }
+}

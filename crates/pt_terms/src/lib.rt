@@ -1,0 +1,26 @@
+//! Terms: names and their environment, the theories' operators, binders, and applications of definitions, each with the nodes that it adds.
+#![tactic(auto)]
+
+mod application;
+pub mod arithmetic;
+pub mod binders;
+pub mod bindings;
+mod connectives;
+mod copying;
+mod definitions;
+pub mod elaborator;
+pub mod environment;
+pub mod laws;
+mod leaves;
+pub mod meaning;
+mod numbering;
+pub mod numerals;
+mod reaching;
+pub mod refusals;
+mod relations;
+mod replacing;
+pub mod symbols;
+mod terms;
+#[cfg(test)]
+mod tests;
+mod whole_terms;
