@@ -10,3 +10,4 @@ pub mod Rooms
 pub mod FirstWide
 pub mod OneStep
 pub mod OneRun
+pub mod Fronts

@@ -2,10 +2,11 @@
 use Rattle.std.proofs.Common.{◌≡◌, ◌⊎◌, inl, inr, ℕ, ◌<◌, ◌≤◌, Bool, true, false, List, [], ◌∷◌, ◌++◌, length, refl, ap, sym, subst, ◌∙◌, arith}
 use Rattle.std.specs.Prelude.{Some, Result, Ok, Err}
 use Rattle.std.proofs.lemmas.Bool.{cases_lt}
+use Rattle.pt_eval.specs.Laws.{RefusalsHaveACause}
 use Rattle.pt_syntax.specs.declared.kinds.ReadRefusal.{ReadRefusal}
 use Rattle.pt_syntax.specs.Lists.{Script, Done, Stops, Command as Reads_list}
 use Rattle.pt_read.specs.declared.command.Command.{Command}
-use Rattle.pt_read.specs.Elaboration.{Work}
+use Rattle.pt_terms.specs.Elaboration.{Work}
 use Rattle.pt_read.specs.Scope.{State}
 use Rattle.pt_read.specs.Commands.{elaborate}
 use Rattle.pt_read.specs.Reader.{IsNext, IsRefusedWith, with_work}
@@ -59,7 +60,7 @@ one_more_at bound x a b s commands lists l stands same more =
     subst (λ (u : Standing). OneMore bound x u lists s l) stands (subst (λ (c : Script). OneMore bound x a c s l) same more)
 
 module _ (text : List ℕ) (bound : ℕ) where
-  one_run : (xs ys : List Turn) (s t : Standing) (l m : Script) → length xs ≡ length ys → HasRun text bound xs s l → HasRun text bound ys t m → (xs ≡ ys) × (s ≡ t) × (l ≡ m)
+  pub one_run : (xs ys : List Turn) (s t : Standing) (l m : Script) → length xs ≡ length ys → HasRun text bound xs s l → HasRun text bound ys t m → (xs ≡ ys) × (s ≡ t) × (l ≡ m)
   one_run [] [] s t l m long (size, first, script) (size', first', script') = (refl, first ∙ sym first', script ∙ sym script')
   one_run [] (y ∷ ys) s t l m long run run' = absurd (omega arith)
   one_run (x ∷ xs) [] s t l m long run run' = absurd (omega arith)
@@ -69,7 +70,7 @@ module _ (text : List ℕ) (bound : ℕ) where
       (ap (λ (u : Turn). u ∷ xs) turn ∙ ap (λ (us : List Turn). y ∷ us) turns, after, left)
 
   -- a text that has a run is not too long
-  run_size : (turns : List Turn) (s : Standing) (left : Script) → HasRun text bound turns s left → length text ≤ 4194304
+  pub run_size : (turns : List Turn) (s : Standing) (left : Script) → HasRun text bound turns s left → length text ≤ 4194304
   run_size [] s left run = run.0
   run_size (turn ∷ earlier) s left (before, commands, run, going, next, step) = run_size earlier before commands run
 
@@ -94,11 +95,11 @@ StopsAfter bound turns s left line refused = (HasExited turns × (line ≡ []) �
 abbrev SameEnd : List ℕ → List ℕ → Bool → Bool → Type 0
 SameEnd line text refused status = (line ≡ text) × (refused ≡ status)
 
-module _ (bound : ℕ) (s : Standing) where
+module _ (law : RefusalsHaveACause) (bound : ℕ) (s : Standing) where
   at_command_one : (r : Reading) (one two : List ℕ) (first second : Bool) → AtCommand bound s r one first → AtCommand bound s r two second → SameEnd one two first second
   at_command_one (Err e) one two first second (line, status) (line', status') = (line ∙ sym line', status ∙ sym status')
   at_command_one (Ok (c, w)) one two first second (fault, fails, line, status) (fault', fails', line', status') =
-      let same = one_fault (in_scope (with_work w s.scope) s) c bound fault fault' fails fails' in
+      let same = one_fault law (in_scope (with_work w s.scope) s) c bound fault fault' fails fails' in
       (line ∙ ap (λ (f : SessionFault). fault_line bound f) same ∙ sym line', status ∙ sym status')
 
   at_left_one : (left : Script) (one two : List ℕ) (first second : Bool) → AtLeft bound s left one first → AtLeft bound s left two second → SameEnd one two first second
@@ -110,7 +111,7 @@ module _ (bound : ℕ) (s : Standing) where
   at_command_last : (r : Reading) (line reply : List ℕ) (refused : Bool) (c : Command) (w : Work) (new : Standing) → r ≡ Ok (c, w) → AtCommand bound s r line refused → Step (in_scope (with_work w s.scope) s) c bound reply new → ⊥
   at_command_last r line reply refused c w new is at step =
       let (fault, fails, words, status) = subst (λ (q : Reading). AtCommand bound s q line refused) is at in
-      answered_not_refused (in_scope (with_work w s.scope) s) c bound reply new fault step fails
+      answered_not_refused law (in_scope (with_work w s.scope) s) c bound reply new fault step fails
 
   at_left_last : (left rest : Script) (line : List ℕ) (refused : Bool) (turn : Turn) (new : Standing) → AtLeft bound s left line refused → OneMore bound turn s left new rest → ⊥
   at_left_last Done rest line refused turn new at (next, step) = next
@@ -136,20 +137,20 @@ exited_or_goes_on : (turns : List Turn) → HasExited turns → GoesOn turns →
 exited_or_goes_on [] exited going = exited
 exited_or_goes_on (turn ∷ earlier) exited going = let wrong : true ≡ false = sym exited ∙ going in absurd cc
 
-stops_one : (bound : ℕ) (turns : List Turn) (s : Standing) (left : Script) (one two : List ℕ) (first second : Bool) → StopsAfter bound turns s left one first → StopsAfter bound turns s left two second → SameEnd one two first second
-stops_one bound turns s left one two first second (inl (exited, line, status)) (inl (exited', line', status')) = (line ∙ sym line', status ∙ sym status')
-stops_one bound turns s left one two first second (inl (exited, line, status)) (inr (going, at)) = absurd (exited_or_goes_on turns exited going)
-stops_one bound turns s left one two first second (inr (going, at)) (inl (exited, line, status)) = absurd (exited_or_goes_on turns exited going)
-stops_one bound turns s left one two first second (inr (going, at)) (inr (going', at')) = at_left_one bound s left one two first second at at'
+stops_one : RefusalsHaveACause → (bound : ℕ) (turns : List Turn) (s : Standing) (left : Script) (one two : List ℕ) (first second : Bool) → StopsAfter bound turns s left one first → StopsAfter bound turns s left two second → SameEnd one two first second
+stops_one law bound turns s left one two first second (inl (exited, line, status)) (inl (exited', line', status')) = (line ∙ sym line', status ∙ sym status')
+stops_one law bound turns s left one two first second (inl (exited, line, status)) (inr (going, at)) = absurd (exited_or_goes_on turns exited going)
+stops_one law bound turns s left one two first second (inr (going, at)) (inl (exited, line, status)) = absurd (exited_or_goes_on turns exited going)
+stops_one law bound turns s left one two first second (inr (going, at)) (inr (going', at')) = at_left_one law bound s left one two first second at at'
 
 -- a run that has ended has no command more
-stops_last : (bound : ℕ) (turns : List Turn) (s new : Standing) (left rest : Script) (line : List ℕ) (refused : Bool) (turn : Turn) → StopsAfter bound turns s left line refused → GoesOn turns → OneMore bound turn s left new rest → ⊥
-stops_last bound turns s new left rest line refused turn (inl (exited, is, status)) going more = exited_or_goes_on turns exited going
-stops_last bound turns s new left rest line refused turn (inr (going', at)) going more = at_left_last bound s left rest line refused turn new at more
+stops_last : RefusalsHaveACause → (bound : ℕ) (turns : List Turn) (s new : Standing) (left rest : Script) (line : List ℕ) (refused : Bool) (turn : Turn) → StopsAfter bound turns s left line refused → GoesOn turns → OneMore bound turn s left new rest → ⊥
+stops_last law bound turns s new left rest line refused turn (inl (exited, is, status)) going more = exited_or_goes_on turns exited going
+stops_last law bound turns s new left rest line refused turn (inr (going', at)) going more = at_left_last law bound s left rest line refused turn new at more
 
 -- ---- a text has one end
 
-module _ (text : List ℕ) (bound : ℕ) where
+module _ (law : RefusalsHaveACause) (text : List ℕ) (bound : ℕ) where
   -- the run and its end; or the text is too long
   abbrev EndsAfter : List Turn → List ℕ → Bool → Type 0
   EndsAfter turns line refused = (s : Standing) × (left : Script) × HasRun text bound turns s left × StopsAfter bound turns s left line refused
@@ -157,17 +158,17 @@ module _ (text : List ℕ) (bound : ℕ) where
   abbrev EndsTooLong : List Turn → List ℕ → Bool → Type 0
   EndsTooLong turns line refused = (4194304 < length text) × (turns ≡ []) × (line ≡ too_long) × (refused ≡ true)
 
-  ends_after : (turns : List Turn) (line : List ℕ) (refused : Bool) → Ends text bound turns line refused → EndsAfter turns line refused ⊎ EndsTooLong turns line refused
+  pub ends_after : (turns : List Turn) (line : List ℕ) (refused : Bool) → Ends text bound turns line refused → EndsAfter turns line refused ⊎ EndsTooLong turns line refused
   ends_after turns line refused (inl ((s, left, run, inl exited), is, status)) = inl (s, left, run, inl (exited, is, status))
   ends_after turns line refused (inl ((s, left, run, inr (going, done)), is, status)) =
       inl (s, left, run, inr (going, subst (λ (commands : Script). AtLeft bound s commands line refused) (sym done) (is, status)))
-  ends_after turns line refused (inr (inl (s, left, e, run, going, unreadable, is), status)) = inl (s, left, run, inr (going, at_refusal bound s left e line refused unreadable is status))
+  ends_after turns line refused (inr (inl (s, left, e, run, going, unreadable, is), status)) = inl (s, left, run, inr (going, at_refusal law bound s left e line refused unreadable is status))
   ends_after turns line refused (inr (inr (inl (s, scope, c, fault, comes, fails, is)), status)) =
-      inl (s, comes.commands, comes.run, inr (comes.going, at_fault bound s comes.commands comes.left c scope fault line refused comes.read fails is status))
+      inl (s, comes.commands, comes.run, inr (comes.going, at_fault law bound s comes.commands comes.left c scope fault line refused comes.read fails is status))
   ends_after turns line refused (inr (inr (inr (long, none, is)), status)) = inr (long, none, is, status)
 
   -- a run that has ended has no longer one
-  none_longer : (xs ys : List Turn) (line : List ℕ) (refused : Bool) (t : Standing) (rest : Script) → length xs < length ys → EndsAfter xs line refused → HasRun text bound ys t rest → ⊥
+  pub none_longer : (xs ys : List Turn) (line : List ℕ) (refused : Bool) (t : Standing) (rest : Script) → length xs < length ys → EndsAfter xs line refused → HasRun text bound ys t rest → ⊥
   none_longer xs [] line refused t rest longer ends run = omega arith
   none_longer xs (y ∷ ys) line refused t rest longer (s, left, run, stops) (before, commands, run', going, next, step) =
       elim (cases_lt (length xs) (length ys)) [
@@ -175,7 +176,7 @@ module _ (text : List ℕ) (bound : ℕ) where
         | inr le ↦
             let (turns, stands, same) = one_run text bound xs ys s before left commands (omega arith) run run' in
             let here = one_more_at bound y before s t commands left rest (sym stands) (sym same) (next, step) in
-            stops_last bound xs s t left rest line refused y stops (subst (λ (us : List Turn). GoesOn us) (sym turns) going) here
+            stops_last law bound xs s t left rest line refused y stops (subst (λ (us : List Turn). GoesOn us) (sym turns) going) here
       ]
 
   abbrev SameOutput : List Turn → List Turn → List ℕ → List ℕ → Bool → Bool → Type 0
@@ -193,7 +194,7 @@ module _ (text : List ℕ) (bound : ℕ) where
               subst (λ (us : List Turn). StopsAfter bound us t rest one first) turns
               (subst (λ (u : Standing). StopsAfter bound xs u rest one first) stands
               (subst (λ (commands : Script). StopsAfter bound xs s commands one first) same stops)) in
-              (turns, stops_one bound ys t rest one two first second there stops')
+              (turns, stops_one law bound ys t rest one two first second there stops')
         ]
       ]
 

@@ -10,13 +10,13 @@ use Rattle.pt_query.specs.Queries.{IsEmptySet, IsSubset, IsBounded, HasLetters, 
 use Rattle.pt_query.specs.declared.fault.WitnessFault.TheVariants.{Wide as Is_wide}
 use Rattle.pt_formula.specs.declared.node.Node.{Node}
 use Rattle.pt_formula.specs.declared.node.Position.{Position}
-use Rattle.pt_formula.specs.Formulas.{tree_of, position_at}
+use Rattle.pt_formula.specs.Formulas.{position_at}
 use Rattle.pt_formula.specs.Costs.{IsRefused, NoneRefused}
-use Rattle.pt_eval.proofs.CostLaws.{cost-excluded}
+use Rattle.pt_eval.specs.Laws.{RefusalsHaveACause}
 use Rattle.pt_read.specs.declared.command.Command.{Command}
 use Rattle.pt_read.specs.declared.command.CommandKind.{CommandKind}
 use Rattle.pt_read.specs.declared.command.CommandKind.TheVariants as kind
-use Rattle.pt_read.specs.Scope.{constants_in}
+use Rattle.pt_terms.specs.Names.{constants_in}
 use Rattle.pt_script.specs.declared.fault.SessionFault.{SessionFault}
 use Rattle.pt_script.specs.declared.fault.SessionFault.TheVariants.{States, NoModel, WideValue, PopTooFar, Full, NoMemory}
 use Rattle.pt_script.specs.declared.solution.LeastSolution.{LeastSolution}
@@ -122,10 +122,8 @@ module _ (f : List (Node × Position)) (rs : List ℕ) (bound : ℕ) where
       let (j, is_j, e') = states_is two second in
       e ∙ ap (λ (n : ℕ). States (position_at f n)) (one_refused i j is_i is_j) ∙ sym e'
 
-  states_excluded : (fault : SessionFault) → IsStates f rs bound fault → NoneRefused f rs bound → ⊥
-  states_excluded fault h none =
-      let (i, is, e) = states_is fault h in
-      cost-excluded (tree_of f i) bound is.costly.above (none i is.reached)
+  states_excluded : RefusalsHaveACause → (fault : SessionFault) → IsStates f rs bound fault → NoneRefused f rs bound → ⊥
+  states_excluded law fault h none = let (i, is, e) = states_is fault h in law f rs bound i is none
 
 -- the fault of a command that asks for a model, by the model that stands
 abbrev Needs : Option LeastSolution → Position → SessionFault → Type 0
@@ -190,14 +188,14 @@ itself_excluded s p (kind.SetList a k) bound fault (zs, is_z, narrow) (n, cause,
 itself_excluded s p k bound fault fine h = h
 
 -- a command is refused with one fault
-pub one_fault : (s : Standing) (c : Command) (bound : ℕ) (one two : SessionFault) → StepFails s c bound one → StepFails s c bound two → one ≡ two
-one_fault s c bound one two (inl first) (inl second) = one_states s.scope.formula (roots s.scope c.kind) bound one two first second
-one_fault s c bound one two (inl first) (inr (none, second)) = absurd (states_excluded s.scope.formula (roots s.scope c.kind) bound one first none)
-one_fault s c bound one two (inr (none, first)) (inl second) = absurd (states_excluded s.scope.formula (roots s.scope c.kind) bound two second none)
-one_fault s c bound one two (inr (none, first)) (inr (none', second)) =
+pub one_fault : RefusalsHaveACause → (s : Standing) (c : Command) (bound : ℕ) (one two : SessionFault) → StepFails s c bound one → StepFails s c bound two → one ≡ two
+one_fault law s c bound one two (inl first) (inl second) = one_states s.scope.formula (roots s.scope c.kind) bound one two first second
+one_fault law s c bound one two (inl first) (inr (none, second)) = absurd (states_excluded s.scope.formula (roots s.scope c.kind) bound law one first none)
+one_fault law s c bound one two (inr (none, first)) (inl second) = absurd (states_excluded s.scope.formula (roots s.scope c.kind) bound law two second none)
+one_fault law s c bound one two (inr (none, first)) (inr (none', second)) =
     one_itself s c.position c.kind bound one two (itself_is s c.position c.kind bound one first) (itself_is s c.position c.kind bound two second)
 
 -- and none that is answered is refused
-pub answered_not_refused : (s : Standing) (c : Command) (bound : ℕ) (reply : List ℕ) (new : Standing) (fault : SessionFault) → Step s c bound reply new → StepFails s c bound fault → ⊥
-answered_not_refused s c bound reply new fault step (inl refused) = states_excluded s.scope.formula (roots s.scope c.kind) bound fault refused step.roots
-answered_not_refused s c bound reply new fault step (inr (none, refused)) = itself_excluded s c.position c.kind bound fault step.fine (itself_is s c.position c.kind bound fault refused)
+pub answered_not_refused : RefusalsHaveACause → (s : Standing) (c : Command) (bound : ℕ) (reply : List ℕ) (new : Standing) (fault : SessionFault) → Step s c bound reply new → StepFails s c bound fault → ⊥
+answered_not_refused law s c bound reply new fault step (inl refused) = states_excluded s.scope.formula (roots s.scope c.kind) bound law fault refused step.roots
+answered_not_refused law s c bound reply new fault step (inr (none, refused)) = itself_excluded s c.position c.kind bound fault step.fine (itself_is s c.position c.kind bound fault refused)

@@ -1,15 +1,27 @@
 ghost use Rattle.std.specs.Prelude.{◌<◌, ◌≡◌, ℕ, Bool, List};
+ghost use Rattle.pt_sets.specs.Lists.{Home};
 ghost use Rattle.pt_store.specs.Local.{Size, LocalLists, Owns};
 ghost use Rattle.pt_main.specs.Ending.{HasRoom};
-ghost use Rattle.pt_main.specs.Output.{IsOutput};
+ghost use Rattle.pt_main.specs.Output.{IsOutput, IsFrontOf, IsFrontOfOutput};
+
+use pt_eval::refusals_are_exact;
 
 /// Where fewer codes were offered to the pass of a local store than a shard may have, no list is at the limit. So a run
 /// over such a store cannot end with a full shard where the offers before it and its work are together below the limit.
 pub fn few_offers_leave_room()
-    ensures { (store : Size) (pass : LocalLists) → Owns store pass → pass.offers < store.limit → HasRoom store.limit pass.lists }
+    ensures { (home : Home) (store : Size) (pass : LocalLists) → Owns home store pass → pass.offers < store.limit → HasRoom store.limit pass.lists }
 {}
 
-/// A text has one output and one status under a bound.
+/// A text has at most one output and one status under a bound.
 pub fn outputs_are_one()
     ensures { (text : List ℕ) (bound : ℕ) (one two : List ℕ) (first second : Bool) → IsOutput text bound one first → IsOutput text bound two second → (one ≡ two) × (first ≡ second) }
-{}
+{
+    refusals_are_exact();
+}
+
+/// What a run that is cut off has written is a prefix of the output of its text under the same bound.
+pub fn fronts_are_prefixes()
+    ensures { (text : List ℕ) (bound : ℕ) (front out : List ℕ) (refused : Bool) → IsFrontOfOutput text bound front → IsOutput text bound out refused → IsFrontOf front out }
+{
+    refusals_are_exact();
+}

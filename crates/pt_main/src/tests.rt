@@ -23,7 +23,7 @@ fn words_of(alloc: Global, line: &str) -> Result<Vec<String>, Fail> {
 
 /// The script gives this output under these words. It is refused exactly where its last line is an error line.
 fn expect(
-    rt: &(impl Abort + Eprint + Threads),
+    rt: &(impl Abort + Eprint + Threads + Sync),
     alloc: Global,
     words: &str,
     script: &str,
@@ -56,7 +56,7 @@ fn expect(
 
 /// Each script gives its output under its words.
 pub(crate) fn expect_all(
-    rt: &(impl Abort + Eprint + Threads),
+    rt: &(impl Abort + Eprint + Threads + Sync),
     alloc: Global,
     rows: &[(&str, &str, &str)],
 ) -> Result<(), Fail> {
@@ -234,7 +234,7 @@ fn a_script_of_many_commands(rt: HostRuntime) -> Result<(), Fail> {
 
 /// How a run ends, and what it has written, whose source and sink each fail at one call and whose store has one shard.
 fn ending(
-    rt: &impl Threads,
+    rt: &(impl Threads + Sync),
     alloc: Global,
     words: &str,
     script: &[u8],

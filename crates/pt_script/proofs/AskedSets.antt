@@ -1,29 +1,27 @@
 -- Handles of sets that are asked for, and what they become over more variables and in longer lists.
-use Rattle.std.proofs.Common.{◌≡◌, ◌⊎◌, inl, inr, ℕ, zero, suc, ◌<◌, ◌≤◌, List, [], ◌∷◌, ◌++◌, length, map, refl, ap, sym, subst, ◌∙◌, arith}
+use Rattle.std.proofs.Common.{◌≡◌, inl, inr, ℕ, zero, suc, ◌<◌, List, [], ◌∷◌, length, map, refl, ap, sym, subst, ◌∙◌, arith}
 use Rattle.std.specs.Prelude.{Some, slice_get, slice_index, slice_index_or}
 use Rattle.std.specs.List.{AllByRecursion}
-use Rattle.pt_sets.specs.Elements.{AnyByRecursion, ContainsByRecursion}
-use Rattle.pt_sets.specs.Words.{Vector}
+use Rattle.pt_sets.specs.Elements.{AnyByRecursion}
 use Rattle.pt_sets.specs.Sets.{VectorSet, SameSet}
-use Rattle.pt_sets.specs.Costs.{CostIs, SameResidual}
 use Rattle.pt_sets.specs.Restricting.{IsTrackMap, widened}
 use Rattle.pt_sets.specs.Lists.{Lists, Home, Extends}
 use Rattle.pt_sets.specs.Known.{Lacks}
-use Rattle.pt_sets.proofs.Counting.{SameSet-sym, SameSet-trans, residual-equivalence}
+use Rattle.pt_sets.proofs.Counting.{SameSet-sym, SameSet-trans}
 use Rattle.pt_handles.specs.declared.handle.Handle.{Handle}
-use Rattle.pt_handles.specs.Handles.{Has, SetOfHandle}
+use Rattle.pt_handles.specs.Handles.{Has, SetOfHandle, FullOnlyWhereLacking}
 use Rattle.pt_handles.specs.Laws.{LongerListsKnow}
+use Rattle.pt_store.specs.declared.fault.StoreFault.{StoreFault}
+use Rattle.pt_store.specs.declared.fault.StoreFault.TheVariants as store
 use Rattle.pt_formula.specs.declared.node.Node.{Node}
 use Rattle.pt_formula.specs.declared.node.Position.{Position}
 use Rattle.pt_formula.specs.Forms.{IsIncreasing}
-use Rattle.pt_formula.specs.Truth.{Tree, Solutions, Widened, free_variables}
-use Rattle.pt_formula.specs.Formulas.{IsFormula, node_at, children, tree_of, variables_of}
-use Rattle.pt_formula.specs.Costs.{IsPath, Reaches, IsReached, NoneRefused, track_of}
-use Rattle.pt_eval.specs.Evaluating.{IsCheap, IsFullAt, HasSolutions, HaveSolutions, HasFewResiduals, KnowsReached, LacksSolutions}
+use Rattle.pt_formula.specs.Truth.{Solutions, Widened}
+use Rattle.pt_formula.specs.Formulas.{tree_of, variables_of}
+use Rattle.pt_formula.specs.Costs.{IsPath, Reaches, IsReached, NoneRefused}
+use Rattle.pt_eval.specs.Evaluating.{IsCheap, IsFullAt, HasSolutions, HaveSolutions, KnowsReached, LacksSolutions}
 use Rattle.pt_eval.specs.Parts.{tracks_of}
-use Rattle.pt_eval.proofs.TrackLaws.{is-track_map, tracks-inside}
-use Rattle.pt_eval.proofs.BinaryLaws.{WideningLaw, widened-values}
-use Rattle.pt_eval.proofs.CostLaws.{number-within, residuals-moved}
+use Rattle.pt_eval.specs.Laws.{SolutionsAreOverTheirVariables, TracksAreMaps, TracksWidenSolutions}
 use Rattle.pt_read.specs.declared.command.Predicate.{Predicate}
 use Rattle.pt_read.specs.declared.command.CommandKind.{CommandKind}
 use Rattle.pt_read.specs.declared.command.CommandKind.TheVariants as kind
@@ -33,7 +31,8 @@ use Rattle.pt_script.specs.declared.fault.SessionFault.{SessionFault}
 use Rattle.pt_script.specs.declared.fault.SessionFault.TheVariants.{States, NoModel, WideValue, PopTooFar, Full, NoMemory}
 use Rattle.pt_script.specs.Step.{set_of, roots, predicates}
 use Rattle.pt_script.specs.Asks.{Asked, asked_set, AsksFor, KnowsAll}
-use Rattle.pt_script.specs.Sets.{HasSetOf, HaveSetsOf, RefusesAsked, FullOnlyWhere}
+use Rattle.pt_script.specs.Faults.{of_store}
+use Rattle.pt_script.specs.Sets.{HasSetOf, RefusesAsked, FullOnlyWhere}
 
 -- ---- equal sets, and longer lists
 
@@ -54,35 +53,6 @@ has-longer law home old new longer t X h has =
       set = SameSet-trans t (SetOfHandle new h) (SetOfHandle old h) X (subst (λ n. SameSet n (SetOfHandle new h) (SetOfHandle old h)) has.tracks after.1) has.set;
     }
 
--- ---- over more variables
-
--- over its own variables a set is itself
-pub own-widened : WideningLaw → (t : Tree) → SameSet (length (free_variables t)) (Solutions t) (Widened (free_variables t) (free_variables t) (Solutions t))
-own-widened law t = record {
-  agrees = λ z count. (let e = law t (free_variables t) z count in (λ h. e.1 h.1, λ h. (count, e.0 h)));
-}
-
-contains-track : (v : ℕ) (us : List ℕ) → ContainsByRecursion v us → track_of v us < length us
-contains-track v us found = at us us (tracks-inside us) found
-  where
-    at : (all ws : List ℕ) → AllByRecursion (λ w. track_of w all < length all) ws → ContainsByRecursion v ws → track_of v all < length all
-    at all [] inside found = absurd found
-    at all (w ∷ ws) inside (inl here) = subst (λ x. track_of x all < length all) (sym here) inside.0
-    at all (w ∷ ws) inside (inr there) = at all ws inside.1 there
-
-all-tracks : (us vs : List ℕ) → AllByRecursion (λ v. ContainsByRecursion v us) vs → AllByRecursion (λ w. track_of w us < length us) vs
-all-tracks us [] h = tt
-all-tracks us (v ∷ vs) h = (contains-track v us h.0, all-tracks us vs h.1)
-
-pub body-map : (s : State) (p : Predicate) → IsPredicate s p → IsIncreasing (variables_of s.formula p.body) →
-    IsTrackMap (length (variables_of s.formula p.body)) (length p.parameters) (tracks_of (variables_of s.formula p.body) p.parameters)
-body-map s p fits up = is-track_map (variables_of s.formula p.body) p.parameters up fits.parameters.0 (all-tracks p.parameters (variables_of s.formula p.body) fits.free)
-
--- the set by tracks is the one by values
-pub body-set : (s : State) (p : Predicate) (X : VectorSet) → SameSet (length (variables_of s.formula p.body)) X (Solutions (tree_of s.formula p.body)) →
-    SameSet (length p.parameters) (widened (tracks_of (variables_of s.formula p.body) p.parameters) X) (set_of s p)
-body-set s p X same = widened-values (variables_of s.formula p.body) p.parameters X (Solutions (tree_of s.formula p.body)) same
-
 -- ---- what is asked for
 
 -- a node that a reached one reaches is reached
@@ -100,14 +70,14 @@ pub all-cheap : (f : List (Node × Position)) (rs : List ℕ) (bound : ℕ) → 
 all-cheap f rs bound none i reached d path = none d (reached-on f rs i d reached path)
 
 -- no predicate: the nodes alone
-pub knows-nodes : WideningLaw → (home : Home) (lists : Lists) (s : State) (rs : List ℕ) (bound : ℕ) → KnowsReached home lists s.formula rs → KnowsAll home lists (AsksFor s rs [] bound)
-knows-nodes law home lists s rs bound knows a (inl (i, reached, cheap, is)) =
+pub knows-nodes : SolutionsAreOverTheirVariables → (home : Home) (lists : Lists) (s : State) (rs : List ℕ) (bound : ℕ) → KnowsReached home lists s.formula rs → KnowsAll home lists (AsksFor s rs [] bound)
+knows-nodes own home lists s rs bound knows a (inl (i, reached, cheap, is)) =
     let (h, has) = knows i reached in (
       h,
       subst (λ (a : Asked). Has home lists (length a.variables) (asked_set a) h) (sym is)
-          (has-moved home lists (length (variables_of s.formula i)) (Solutions (tree_of s.formula i)) _ h (own-widened law (tree_of s.formula i)) has),
+          (has-moved home lists (length (variables_of s.formula i)) (Solutions (tree_of s.formula i)) _ h (own (tree_of s.formula i)) has),
     )
-knows-nodes law home lists s rs bound knows a (inr (cheap, any)) = absurd any
+knows-nodes own home lists s rs bound knows a (inr (cheap, any)) = absurd any
 
 pub knows-one : (home : Home) (lists : Lists) (s : State) (rs : List ℕ) (p : Predicate) (bound : ℕ) (h : Handle) →
     KnowsAll home lists (AsksFor s rs [] bound) → HasSetOf home lists s p h → KnowsAll home lists (AsksFor s rs (p ∷ []) bound)
@@ -127,14 +97,14 @@ knows-longer law home old new longer Asks knows a asks = let (h, has) = knows a 
 
 -- ---- refusals
 
-pub refuses-nodes : WideningLaw → (home : Home) (limit : ℕ) (lists : Lists) (s : State) (rs : List ℕ) (bound shard count : ℕ) →
+pub refuses-nodes : SolutionsAreOverTheirVariables → (home : Home) (limit : ℕ) (lists : Lists) (s : State) (rs : List ℕ) (bound shard count : ℕ) →
     IsFullAt limit lists shard count × ((i : ℕ) × IsReached s.formula rs i × IsCheap s.formula bound i × LacksSolutions home limit lists s.formula i) → RefusesAsked home limit lists s rs [] bound (Full shard count)
-refuses-nodes law home limit lists s rs bound shard count (full, (i, reached, cheap, lacks)) = (
+refuses-nodes own home limit lists s rs bound shard count (full, (i, reached, cheap, lacks)) = (
   full,
   (
     record { variables = variables_of s.formula i; tree = tree_of s.formula i },
     inl (i, reached, cheap, refl),
-    lacks-moved home limit lists (length (variables_of s.formula i)) (Solutions (tree_of s.formula i)) _ (own-widened law (tree_of s.formula i)) lacks,
+    lacks-moved home limit lists (length (variables_of s.formula i)) (Solutions (tree_of s.formula i)) _ (own (tree_of s.formula i)) lacks,
   ),
 )
 
@@ -169,66 +139,44 @@ refuses-set home limit lists s rs ps p bound (Full shard count) cheap among (ful
     asked (q ∷ qs) (inr any) = inr (asked qs any)
 refuses-set home limit lists s rs ps p bound NoMemory cheap among h = tt
 
--- ---- nodes in range
-
-contained-below : (i c : ℕ) (cs : List ℕ) → AllByRecursion (λ c. c < i) cs → ContainsByRecursion c cs → c < i
-contained-below i c [] all found = absurd found
-contained-below i c (b ∷ cs) all (inl here) = subst (λ x. x < i) (sym here) all.0
-contained-below i c (b ∷ cs) all (inr there) = contained-below i c cs all.1 there
-
-path-within : (f : List (Node × Position)) → IsFormula f → (a : ℕ) (cs : List ℕ) (d : ℕ) → a < length f → IsPath f a cs d → d < length f
-path-within f whole a [] d lt is = subst (λ x. x < length f) is lt
-path-within f whole a (c ∷ cs) d lt (child, rest) =
-    let below : c < a = contained-below a c (children (node_at f a)) (whole.each a lt).earlier child in
-    path-within f whole c cs d (omega (arith, below, lt)) rest
-
-pub reached-within : (f : List (Node × Position)) → IsFormula f → (roots : List ℕ) → AllByRecursion (λ root. root < length f) roots → (i : ℕ) → IsReached f roots i → i < length f
-reached-within f whole [] within i reached = absurd reached
-reached-within f whole (r ∷ roots) within i (inl (cs, path)) = path-within f whole r cs i within.0 path
-reached-within f whole (r ∷ roots) within i (inr there) = reached-within f whole roots within.1 i there
-
 -- ---- bodies over the parameters
 
 -- where the body's variables are all parameters, the handle is one of the set
-pub own-set : WideningLaw → (home : Home) (lists : Lists) (s : State) (p : Predicate) (h : Handle) → variables_of s.formula p.body ≡ p.parameters →
+pub own-set : SolutionsAreOverTheirVariables → (home : Home) (lists : Lists) (s : State) (p : Predicate) (h : Handle) → variables_of s.formula p.body ≡ p.parameters →
     HasSolutions home lists s.formula p.body h → HasSetOf home lists s p h
-own-set law home lists s p h all has =
+own-set own home lists s p h all has =
     subst (λ (ps : List ℕ). Has home lists (length ps) (Widened ps (variables_of s.formula p.body) (Solutions (tree_of s.formula p.body))) h) all
-    (has-moved home lists (length (variables_of s.formula p.body)) (Solutions (tree_of s.formula p.body)) _ h (own-widened law (tree_of s.formula p.body)) has)
+    (has-moved home lists (length (variables_of s.formula p.body)) (Solutions (tree_of s.formula p.body)) _ h (own (tree_of s.formula p.body)) has)
 
 module _ (s : State) (p : Predicate) (inner outer tracks : List ℕ) (inside : inner ≡ variables_of s.formula p.body) (outside : outer ≡ p.parameters) (is : tracks ≡ tracks_of inner outer) where
   tracks-is : tracks ≡ tracks_of (variables_of s.formula p.body) p.parameters
   tracks-is = is ∙ ap (λ (us : List ℕ). tracks_of us outer) inside ∙ ap (tracks_of (variables_of s.formula p.body)) outside
 
-  pub map-for : IsPredicate s p → IsIncreasing inner → (t : ℕ) → t ≡ length (variables_of s.formula p.body) → IsTrackMap t (length outer) tracks
-  map-for fits up t size =
-      let there = body-map s p fits (subst IsIncreasing inside up) in
+  pub map-for : TracksAreMaps → IsPredicate s p → IsIncreasing inner → (t : ℕ) → t ≡ length (variables_of s.formula p.body) → IsTrackMap t (length outer) tracks
+  map-for maps fits up t size =
+      let there = maps (variables_of s.formula p.body) p.parameters (subst IsIncreasing inside up) fits.parameters.0 fits.free in
       subst (λ (k : ℕ). IsTrackMap k (length outer) tracks) (sym size)
       (subst (λ (ps : List ℕ). IsTrackMap (length (variables_of s.formula p.body)) (length ps) tracks) (sym outside)
       (subst (λ (m : List ℕ). IsTrackMap (length (variables_of s.formula p.body)) (length p.parameters) m) (sym tracks-is) there))
 
-  wide-set : (X : VectorSet) → SameSet (length (variables_of s.formula p.body)) X (Solutions (tree_of s.formula p.body)) → SameSet (length p.parameters) (widened tracks X) (set_of s p)
-  wide-set X same = subst (λ (m : List ℕ). SameSet (length p.parameters) (widened m X) (set_of s p)) (sym tracks-is) (body-set s p X same)
+  -- the set by tracks is the one by values
+  wide-set : TracksWidenSolutions → (old : Lists) (h : Handle) → SameSet (length (variables_of s.formula p.body)) (SetOfHandle old h) (Solutions (tree_of s.formula p.body)) → SameSet (length p.parameters) (widened tracks (SetOfHandle old h)) (set_of s p)
+  wide-set widen old h same =
+      subst (λ (m : List ℕ). SameSet (length p.parameters) (widened m (SetOfHandle old h)) (set_of s p)) (sym tracks-is)
+      (widen old h (variables_of s.formula p.body) p.parameters (tree_of s.formula p.body) same)
 
-  pub set-for : (home : Home) (new : Lists) (X : VectorSet) (h : Handle) → SameSet (length (variables_of s.formula p.body)) X (Solutions (tree_of s.formula p.body)) →
-      Has home new (length outer) (widened tracks X) h → HasSetOf home new s p h
-  set-for home new X h same has =
-      has-moved home new (length p.parameters) (widened tracks X) (set_of s p) h (wide-set X same) (subst (λ (ps : List ℕ). Has home new (length ps) (widened tracks X) h) outside has)
+  pub set-for : TracksWidenSolutions → (home : Home) (old new : Lists) (body h : Handle) → SameSet (length (variables_of s.formula p.body)) (SetOfHandle old body) (Solutions (tree_of s.formula p.body)) →
+      Has home new (length outer) (widened tracks (SetOfHandle old body)) h → HasSetOf home new s p h
+  set-for widen home old new body h same has =
+      has-moved home new (length p.parameters) (widened tracks (SetOfHandle old body)) (set_of s p) h (wide-set widen old body same) (subst (λ (ps : List ℕ). Has home new (length ps) (widened tracks (SetOfHandle old body)) h) outside has)
 
-  pub lacks-for : (home : Home) (limit : ℕ) (new : Lists) (X : VectorSet) → SameSet (length (variables_of s.formula p.body)) X (Solutions (tree_of s.formula p.body)) →
-      Lacks home limit new (length outer) (widened tracks X) → Lacks home limit new (length p.parameters) (set_of s p)
-  lacks-for home limit new X same lacks =
-      lacks-moved home limit new (length p.parameters) (widened tracks X) (set_of s p) (wide-set X same) (subst (λ (ps : List ℕ). Lacks home limit new (length ps) (widened tracks X)) outside lacks)
-
--- a handle of the solutions has as many residuals as the solutions
-pub few-offered : (home : Home) (lists : Lists) (f : List (Node × Position)) (i bound n : ℕ) (h : Handle) → HasSolutions home lists f i h → HasFewResiduals f bound i →
-    CostIs (SameResidual h.tracks (SetOfHandle lists h)) h.tracks n → n ≤ bound
-few-offered home lists f i bound n h has few count =
-    let t = length (variables_of f i) in
-    let X = SetOfHandle lists h in
-    let there : CostIs (SameResidual t X) t n = subst (λ k. CostIs (SameResidual k X) k n) has.tracks count in
-    number-within (SameResidual t X) t n bound (residual-equivalence t X) there
-    (residuals-moved t bound (Solutions (tree_of f i)) X (SameSet-sym t X (Solutions (tree_of f i)) has.set) few)
+  pub full-for : TracksWidenSolutions → (home : Home) (limit : ℕ) (old new : Lists) (body : Handle) (fault : StoreFault) → SameSet (length (variables_of s.formula p.body)) (SetOfHandle old body) (Solutions (tree_of s.formula p.body)) →
+      FullOnlyWhereLacking home limit new (length outer) (widened tracks (SetOfHandle old body)) fault → FullOnlyWhere limit new (Lacks home limit new (length p.parameters) (set_of s p)) (of_store fault)
+  full-for widen home limit old new body (store.Full shard count) same (is, full, lacks) = (
+    (is, full),
+    lacks-moved home limit new (length p.parameters) (widened tracks (SetOfHandle old body)) (set_of s p) (wide-set widen old body same) (subst (λ (ps : List ℕ). Lacks home limit new (length ps) (widened tracks (SetOfHandle old body))) outside lacks),
+  )
+  full-for widen home limit old new body store.NoMemory same full = tt
 
 -- the first and the second handle of two
 pub handle-at : (home : Home) (lists : Lists) (f : List (Node × Position)) (roots : List ℕ) (handles : List Handle) (k : ℕ) (h : Handle) → HaveSolutions home lists f roots handles → k < length roots →
@@ -241,25 +189,9 @@ handle-at home lists f roots handles k h have lt is =
     got (g ∷ hs) zero lt is = ap Some (sym is)
     got (g ∷ hs) (suc k) lt is = got hs k (omega arith) is
 
-pub two-held : (home : Home) (lists : Lists) (s : State) (p q : Predicate) (none one two : List Handle) (a b : Handle) →
-    none ≡ [] → one ≡ none ++ a ∷ [] → two ≡ one ++ b ∷ [] → HasSetOf home lists s p a → HasSetOf home lists s q b → HaveSetsOf home lists s (p ∷ q ∷ []) two
-two-held home lists s p q none one two a b at_first at_one at_two first second =
-    let is : two ≡ a ∷ b ∷ [] = at_two ∙ ap (λ (hs : List Handle). hs ++ b ∷ []) (at_one ∙ ap (λ (hs : List Handle). hs ++ a ∷ []) at_first) in
-    subst (HaveSetsOf home lists s (p ∷ q ∷ [])) (sym is) (first, (second, tt))
-
 -- ---- the roots of a set command
 
-abbrev pub AsksForThese : State → CommandKind → List Predicate → Type 0
-AsksForThese s k ps = (roots s k ≡ map (λ (p : Predicate). p.body) ps) × (predicates k ≡ ps)
-
-pub asks-one : (s : State) (k : CommandKind) (p : Predicate) →
-    (k ≡ kind.SetEmpty p) ⊎ ((k ≡ kind.SetFinite p) ⊎ ((k ≡ kind.SetStates p) ⊎ (((z : Vector) × (k ≡ kind.SetMember p z)) ⊎ ((n : ℕ) × (k ≡ kind.SetList p n))))) → AsksForThese s k (p ∷ [])
-asks-one s k p (inl e) = (ap (roots s) e, ap predicates e)
-asks-one s k p (inr (inl e)) = (ap (roots s) e, ap predicates e)
-asks-one s k p (inr (inr (inl e))) = (ap (roots s) e, ap predicates e)
-asks-one s k p (inr (inr (inr (inl (z, e))))) = (ap (roots s) e, ap predicates e)
-asks-one s k p (inr (inr (inr (inr (n, e))))) = (ap (roots s) e, ap predicates e)
-
-pub asks-two : (s : State) (k : CommandKind) (p q : Predicate) → (k ≡ kind.SetEqual p q) ⊎ (k ≡ kind.SetSubset p q) → AsksForThese s k (p ∷ q ∷ [])
-asks-two s k p q (inl e) = (ap (roots s) e, ap predicates e)
-asks-two s k p q (inr e) = (ap (roots s) e, ap predicates e)
+-- the bodies of its predicates
+pub roots-are : (s : State) (k : CommandKind) (p : Predicate) (ps : List Predicate) → predicates k ≡ p ∷ ps → roots s k ≡ map (λ (p : Predicate). p.body) (p ∷ ps)
+roots-are s kind.CheckSat p ps about = absurd cc
+roots-are s k p ps about = ap (map (λ (p : Predicate). p.body)) about

@@ -1,9 +1,10 @@
--- Texts with a blank between each two.
-use Rattle.std.proofs.Common.{◌≡◌, ℕ, List, [], ◌∷◌, ◌++◌, map, refl, ap, sym, ◌∙◌, append_assoc, ◌≤◌, length, get_or, drop, take, ◌-◌, rules, ℤ, Vec}
+-- Texts that are written part by part, and texts with a blank between each two.
+use Rattle.std.proofs.Common.{◌≡◌, ℕ, List, [], ◌∷◌, ◌++◌, map, refl, ap, sym, ◌∙◌, append_assoc, ◌+◌, ◌<◌, ◌≤◌, length, get_or, drop, take, ◌-◌, rules, ℤ, Vec}
 use Rattle.std.specs.declared.alloc.Global.{Global}
 use Rattle.pt_query.specs.Queries.{vectors_of}
 use Rattle.std.specs.List.{join_with_byte, flat_map}
-use Rattle.std.proofs.lemmas.List.{append-nil, take_all}
+use Rattle.std.proofs.lemmas.List.{append-nil, take_all, take_more}
+use Rattle.std.proofs.lemmas.Grind.{flat_map-append}
 use Rattle.std.proofs.lemmas.List.Concat.{flat_map-cons}
 
 pub join-cons : {X : Type 0} (f : X → List ℕ) (x : X) (xs : List X) → join_with_byte 32 (map f (x ∷ xs)) ≡ f x ++ flat_map (λ (y : X). 32 ∷ f y) xs
@@ -13,6 +14,13 @@ join-cons {X} f x (y ∷ ys) = ap (λ (l : List ℕ). f x ++ 32 ∷ l) (join-con
 -- one more part
 pub more : (o x y now next : List ℕ) → now ≡ o ++ x → next ≡ now ++ y → next ≡ o ++ (x ++ y)
 more o x y now next before step = step ∙ ap (λ (l : List ℕ). l ++ y) before ∙ append_assoc o x y
+
+-- the part of one more item
+pub written-more : {X : Type 0} (f : X → List ℕ) (xs : List X) (i : ℕ) (d : X) (before now next : List ℕ) → i < length xs → now ≡ before ++ flat_map f (take i xs) → next ≡ now ++ f (get_or xs i d) → next ≡ before ++ flat_map f (take (i + 1) xs)
+written-more {X} f xs i d before now next inside is step =
+    let last : flat_map f (get_or xs i d ∷ []) ≡ f (get_or xs i d) = append-nil (f (get_or xs i d)) in
+    more before (flat_map f (take i xs)) (f (get_or xs i d)) now next is step
+    ∙ ap (λ (l : List ℕ). before ++ l) (ap (λ (l : List ℕ). flat_map f (take i xs) ++ l) (sym last) ∙ sym (flat_map-append f (take i xs) (get_or xs i d ∷ [])) ∙ ap (flat_map f) (sym (take_more xs i d inside)))
 
 -- one more part of two
 pub more-two : (o x y z now next : List ℕ) → now ≡ o ++ x → next ≡ now ++ (y ++ z) → next ≡ o ++ ((x ++ y) ++ z)

@@ -1,5 +1,5 @@
 -- What a command says of sets, and why it is refused.
-use Rattle.std.specs.Prelude.{ℕ, ◌<◌, ◌≡◌, Bool, List, [], ◌∷◌, length, ⊤}
+use Rattle.std.specs.Prelude.{ℕ, ◌≡◌, Bool, List, length, ⊤}
 use Rattle.pt_sets.specs.Lists.{Lists, Home}
 use Rattle.pt_handles.specs.declared.handle.Handle.{Handle}
 use Rattle.pt_handles.specs.Handles.{Has}
@@ -13,18 +13,12 @@ use Rattle.pt_read.specs.Scope.{State}
 use Rattle.pt_script.specs.declared.fault.SessionFault.{SessionFault}
 use Rattle.pt_script.specs.declared.fault.SessionFault.TheVariants.{States, Full, NoMemory}
 use Rattle.pt_script.specs.State.{Standing}
-use Rattle.pt_script.specs.Step.{set_of, predicates, IsFine, Replies, IsRefusedItself}
+use Rattle.pt_script.specs.Step.{set_of, IsFine, Replies, IsRefusedItself}
 use Rattle.pt_script.specs.Asks.{AsksFor, LacksAsked}
 
 -- a known handle of the set of a predicate, over its parameters
 abbrev pub HasSetOf : Home → Lists → State → Predicate → Handle → Type 0
 HasSetOf home lists s p h = Has home lists (length p.parameters) (set_of s p) h
-
--- one for each predicate, in order
-abbrev pub HaveSetsOf : Home → Lists → State → List Predicate → List Handle → Type 0
-HaveSetsOf home lists s [] [] = ⊤
-HaveSetsOf home lists s (p ∷ ps) (h ∷ hs) = HasSetOf home lists s p h × HaveSetsOf home lists s ps hs
-HaveSetsOf home lists s _ _ = ⊥
 
 -- why no handles of the asked sets are given: a refused node, at its place, or a full shard
 abbrev pub RefusesAsked : Home → ℕ → Lists → State → List ℕ → List Predicate → ℕ → SessionFault → Type 0
@@ -38,9 +32,6 @@ abbrev pub FullOnlyWhere : ℕ → Lists → Type 0 → SessionFault → Type 0
 FullOnlyWhere limit lists lacks (Full shard count) = IsFullAt limit lists shard count × lacks
 FullOnlyWhere limit lists lacks NoMemory = ⊤
 FullOnlyWhere limit lists lacks _ = ⊥
-
-abbrev pub AsksOfSets : CommandKind → Type 0
-AsksOfSets k = 0 < length (predicates k)
 
 -- the reply of a set command, whatever else stands
 abbrev pub Tells : State → CommandKind → ℕ → List ℕ → Type 0

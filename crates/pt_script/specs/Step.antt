@@ -17,7 +17,8 @@ use Rattle.pt_read.specs.declared.command.Predicate.{Predicate}
 use Rattle.pt_read.specs.declared.command.Command.{Command}
 use Rattle.pt_read.specs.declared.command.CommandKind.{CommandKind}
 use Rattle.pt_read.specs.declared.command.CommandKind.TheVariants as kind
-use Rattle.pt_read.specs.Scope.{State, conjunction, constants_in, after}
+use Rattle.pt_read.specs.Scope.{State, conjunction, after}
+use Rattle.pt_terms.specs.Names.{constants_in}
 use Rattle.pt_script.specs.declared.fault.SessionFault.{SessionFault}
 use Rattle.pt_script.specs.declared.fault.SessionFault.TheVariants.{States, NoModel, WideValue, PopTooFar, NoMemory, Full}
 use Rattle.pt_script.specs.declared.solution.LeastSolution.{LeastSolution}

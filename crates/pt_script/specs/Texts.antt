@@ -5,7 +5,7 @@ use Rattle.pt_formula.specs.declared.node.Position.{Position}
 use Rattle.pt_syntax.specs.declared.kinds.ReadKind.{ReadKind}
 use Rattle.pt_syntax.specs.declared.kinds.ReadKind.TheVariants.{Syntax, Unknown, Sort, Nonlinear, Coefficient, Unsupported, Redeclared, Depth, Tracks, Nodes, Logic, NoMemory}
 use Rattle.pt_syntax.specs.declared.kinds.ReadRefusal.{ReadRefusal}
-use Rattle.pt_read.specs.declared.command.Constant.{Constant}
+use Rattle.pt_terms.specs.declared.meaning.Constant.{Constant}
 use Rattle.pt_syntax.specs.Bytes.{is_symbol_byte, is_digit}
 use Rattle.pt_script.specs.declared.fault.SessionFault.{SessionFault}
 use Rattle.pt_script.specs.declared.fault.SessionFault.TheVariants as fault

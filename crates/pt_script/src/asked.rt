@@ -1,24 +1,22 @@
 // Handles of the sets that a command asks for.
-ghost use Rattle.std.specs.Prelude.{◌≡◌, ◌<◌, ◌≤◌, ◌+◌, ◌*◌, [], ◌∷◌, IfOk, IfErr, OnOk, length};
+ghost use Rattle.std.specs.Prelude.{◌≡◌, ℕ, ◌<◌, ◌≤◌, ◌+◌, ◌*◌, [], ◌∷◌, IfOk, IfErr, OnOk, length};
 ghost use Rattle.std.specs.List.{AllByRecursion};
 ghost use Rattle.pt_sets.specs.Lists.{Extends};
 ghost use Rattle.pt_sets.specs.Known.{Lacks};
 ghost use Rattle.pt_formula.specs.Costs.{NoneRefused};
 ghost use Rattle.pt_eval.specs.Evaluating.{HaveSolutions, HasSolutions, HasFewResiduals, HaveFewResiduals, KnowsReached};
-ghost use Rattle.pt_read.specs.Fits.{FitsKind, IsPredicate};
-ghost use Rattle.pt_script.specs.Step.{set_of, predicates, roots};
-ghost use Rattle.pt_script.specs.Asks.{AsksFor, KnowsAll, KnowsAsked};
-ghost use Rattle.pt_script.specs.Sets.{AsksOfSets, HasSetOf, HaveSetsOf, RefusesAsked, FullOnlyWhere};
+ghost use Rattle.pt_read.specs.Fits.{IsPredicate};
+ghost use Rattle.pt_script.specs.Step.{set_of};
+ghost use Rattle.pt_script.specs.Asks.{AsksFor, KnowsAll};
+ghost use Rattle.pt_script.specs.Sets.{HasSetOf, RefusesAsked, FullOnlyWhere};
 
 use crate::fault::SessionFault;
-use pt_eval::{EvalFault, Gate, evaluate, track_map};
+use pt_eval::{EvalFault, Gate, evaluate, handles_of_solutions_are_widened_by_tracks, track_map};
 use pt_formula::NodeId;
-use pt_formula::laws::widening_puts_no_condition_on_added_variables;
 use pt_handles::{Handle, longer_lists_know};
 use pt_product::widen;
-use pt_query::state_count;
-use pt_read::{CommandKind, Predicate, Scope};
-use pt_store::{Codes, Interner, StoreFault};
+use pt_read::{Predicate, Scope};
+use pt_store::{Codes, Interner};
 use std::alloc::Global;
 use std::thread::Threads;
 
@@ -50,9 +48,8 @@ pub(crate) fn evaluate_roots<I: Interner, G: Gate, R: Threads + Sync>(
     ensures err { IfErr result (RefusesAsked I.Pass.home (I.limit_of store.now) (I.Pass.lists pass.new) scope.now roots.now [] bound) }
     ensures offers { I.Pass.offered pass.new ≤ I.Pass.offered pass.old + length scope.now.formula * bound }
 {
-    widening_puts_no_condition_on_added_variables();
+    handles_of_solutions_are_widened_by_tracks();
     let formula = scope.formula();
-    let _formula = formula.len();
     match evaluate(rt, alloc, store, pass, formula, roots, bound, workers, gate) {
         Ok(handles) => Ok(handles),
         Err(EvalFault::States { node }) => Err(SessionFault::States {
@@ -73,35 +70,25 @@ pub(crate) fn widen_body<I: Interner, R: Threads + Sync>(
     scope: &Scope,
     predicate: &Predicate,
     body: Handle,
-    bound: u32,
 ) -> Result<Handle, SessionFault>
     requires owned { I.owns store.now pass.old }
     requires fits { IsPredicate scope.now predicate.now }
     requires body { HasSolutions I.Pass.home (I.Pass.lists pass.old) scope.now.formula predicate.now.body body }
-    requires residuals { HasFewResiduals scope.now.formula bound predicate.now.body }
     ensures kept { I.owns store.now pass.new }
     ensures extends { Extends (I.Pass.lists pass.old) (I.Pass.lists pass.new) }
     ensures ok { IfOk result (HasSetOf I.Pass.home (I.Pass.lists pass.new) scope.now predicate.now) }
     ensures err { IfErr result (FullOnlyWhere (I.limit_of store.now) (I.Pass.lists pass.new) (Lacks I.Pass.home (I.limit_of store.now) (I.Pass.lists pass.new) (length predicate.now.parameters) (set_of scope.now predicate.now))) }
-    ensures offers { I.Pass.offered pass.new ≤ I.Pass.offered pass.old + bound }
+    ensures offers { (n : ℕ) → HasFewResiduals scope.now.formula n predicate.now.body → I.Pass.offered pass.new ≤ I.Pass.offered pass.old + n }
 {
-    widening_puts_no_condition_on_added_variables();
+    handles_of_solutions_are_widened_by_tracks();
     let outer = predicate.parameters.as_slice();
     let inner = scope.formula().variables(predicate.body);
     if inner == outer {
         return Ok(body);
     }
-    let Ok(_) = state_count(alloc, &*pass, body) else {
-        return Err(SessionFault::NoMemory);
-    };
-    let Ok(map) = track_map(alloc, inner, outer) else {
-        return Err(SessionFault::NoMemory);
-    };
-    match widen(rt, alloc, store, pass, body, &map, outer.len() as u32) {
-        Ok(handle) => Ok(handle),
-        Err(StoreFault::Full { shard, count }) => Err(SessionFault::Full { shard, count }),
-        Err(StoreFault::NoMemory) => Err(SessionFault::NoMemory),
-    }
+    let map = track_map(alloc, inner, outer)?;
+    let handle = widen(rt, alloc, store, pass, body, &map, outer.len() as u32)?;
+    Ok(handle)
 }
 
 /// A handle of the set of a predicate.
@@ -115,7 +102,7 @@ pub(crate) fn one_set<I: Interner, G: Gate, R: Threads + Sync>(
     bound: u32,
     workers: u32,
     gate: &G,
-) -> Result<Vec<Handle>, SessionFault>
+) -> Result<Handle, SessionFault>
     requires owned { I.owns store.now pass.old }
     requires fits { IsPredicate scope.now p.now }
     requires some { 0 < bound }
@@ -124,7 +111,7 @@ pub(crate) fn one_set<I: Interner, G: Gate, R: Threads + Sync>(
     requires few_workers { workers ≤ 16 }
     ensures kept { I.owns store.now pass.new }
     ensures extends { Extends (I.Pass.lists pass.old) (I.Pass.lists pass.new) }
-    ensures ok { IfOk result (λ handles. HaveSetsOf I.Pass.home (I.Pass.lists pass.new) scope.now (p.now ∷ []) handles.items) }
+    ensures ok { IfOk result (HasSetOf I.Pass.home (I.Pass.lists pass.new) scope.now p.now) }
     ensures asked { OnOk result (KnowsAll I.Pass.home (I.Pass.lists pass.new) (AsksFor scope.now (p.now.body ∷ []) (p.now ∷ []) bound)) }
     ensures within { OnOk result (NoneRefused scope.now.formula (p.now.body ∷ []) bound) }
     ensures err { IfErr result (RefusesAsked I.Pass.home (I.limit_of store.now) (I.Pass.lists pass.new) scope.now (p.now.body ∷ []) (p.now ∷ []) bound) }
@@ -133,10 +120,8 @@ pub(crate) fn one_set<I: Interner, G: Gate, R: Threads + Sync>(
     longer_lists_know();
     let roots = [p.body];
     let bodies = evaluate_roots(rt, alloc, store, pass, scope, &roots, bound, workers, gate)?;
-    let handle = widen_body(rt, alloc, store, pass, scope, p, bodies[0], bound)?;
-    let mut handles = Vec::new(alloc);
-    handles.push(handle)?;
-    Ok(handles)
+    let handle = widen_body(rt, alloc, store, pass, scope, p, bodies[0])?;
+    Ok(handle)
 }
 
 /// Handles of the sets of two predicates.
@@ -151,7 +136,7 @@ pub(crate) fn two_sets<I: Interner, G: Gate, R: Threads + Sync>(
     bound: u32,
     workers: u32,
     gate: &G,
-) -> Result<Vec<Handle>, SessionFault>
+) -> Result<(Handle, Handle), SessionFault>
     requires owned { I.owns store.now pass.old }
     requires first { IsPredicate scope.now p.now }
     requires second { IsPredicate scope.now q.now }
@@ -161,7 +146,8 @@ pub(crate) fn two_sets<I: Interner, G: Gate, R: Threads + Sync>(
     requires few_workers { workers ≤ 16 }
     ensures kept { I.owns store.now pass.new }
     ensures extends { Extends (I.Pass.lists pass.old) (I.Pass.lists pass.new) }
-    ensures ok { IfOk result (λ handles. HaveSetsOf I.Pass.home (I.Pass.lists pass.new) scope.now (p.now ∷ q.now ∷ []) handles.items) }
+    ensures first { IfOk result (λ sets. HasSetOf I.Pass.home (I.Pass.lists pass.new) scope.now p.now sets.0) }
+    ensures second { IfOk result (λ sets. HasSetOf I.Pass.home (I.Pass.lists pass.new) scope.now q.now sets.1) }
     ensures asked { OnOk result (KnowsAll I.Pass.home (I.Pass.lists pass.new) (AsksFor scope.now (p.now.body ∷ q.now.body ∷ []) (p.now ∷ q.now ∷ []) bound)) }
     ensures within { OnOk result (NoneRefused scope.now.formula (p.now.body ∷ q.now.body ∷ []) bound) }
     ensures err { IfErr result (RefusesAsked I.Pass.home (I.limit_of store.now) (I.Pass.lists pass.new) scope.now (p.now.body ∷ q.now.body ∷ []) (p.now ∷ q.now ∷ []) bound) }
@@ -170,52 +156,7 @@ pub(crate) fn two_sets<I: Interner, G: Gate, R: Threads + Sync>(
     longer_lists_know();
     let roots = [p.body, q.body];
     let bodies = evaluate_roots(rt, alloc, store, pass, scope, &roots, bound, workers, gate)?;
-    let first = widen_body(rt, alloc, store, pass, scope, p, bodies[0], bound)?;
-    let second = widen_body(rt, alloc, store, pass, scope, q, bodies[1], bound)?;
-    let mut handles = Vec::new(alloc);
-    handles.push(first)?;
-    handles.push(second)?;
-    Ok(handles)
-}
-
-/// Handles of the sets of a command's predicates, in order, which the pass knows then.
-pub(crate) fn asked_sets<I: Interner, G: Gate, R: Threads + Sync>(
-    rt: &R,
-    alloc: Global,
-    store: &I,
-    pass: &mut I::Pass,
-    scope: &Scope,
-    kind: &CommandKind,
-    bound: u32,
-    workers: u32,
-    gate: &G,
-) -> Result<Vec<Handle>, SessionFault>
-    requires owned { I.owns store.now pass.old }
-    requires fits { FitsKind kind.now scope.now }
-    requires asks { AsksOfSets kind.now }
-    requires some { 0 < bound }
-    requires few { bound ≤ 65536 }
-    requires some_worker { 0 < workers }
-    requires few_workers { workers ≤ 16 }
-    ensures kept { I.owns store.now pass.new }
-    ensures extends { Extends (I.Pass.lists pass.old) (I.Pass.lists pass.new) }
-    ensures ok { IfOk result (λ handles. HaveSetsOf I.Pass.home (I.Pass.lists pass.new) scope.now (predicates kind.now) handles.items) }
-    ensures asked { OnOk result (KnowsAsked I.Pass.home (I.Pass.lists pass.new) scope.now kind.now bound) }
-    ensures within { OnOk result (NoneRefused scope.now.formula (roots scope.now kind.now) bound) }
-    ensures err { IfErr result (RefusesAsked I.Pass.home (I.limit_of store.now) (I.Pass.lists pass.new) scope.now (roots scope.now kind.now) (predicates kind.now) bound) }
-    ensures offers { I.Pass.offered pass.new ≤ I.Pass.offered pass.old + (length scope.now.formula + 2) * bound }
-{
-    match kind {
-        CommandKind::SetEqual(p, q) | CommandKind::SetSubset(p, q) => two_sets(
-            rt, alloc, store, pass, scope, p, q, bound, workers, gate,
-        ),
-        CommandKind::SetEmpty(p)
-        | CommandKind::SetFinite(p)
-        | CommandKind::SetStates(p)
-        | CommandKind::SetMember(p, _)
-        | CommandKind::SetList(p, _) => {
-            one_set(rt, alloc, store, pass, scope, p, bound, workers, gate)
-        }
-        _ => Ok(Vec::new(alloc)),
-    }
+    let first = widen_body(rt, alloc, store, pass, scope, p, bodies[0])?;
+    let second = widen_body(rt, alloc, store, pass, scope, q, bodies[1])?;
+    Ok((first, second))
 }

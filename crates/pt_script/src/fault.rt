@@ -1,8 +1,9 @@
 ghost use Rattle.std.specs.Prelude.{◌≡◌};
-ghost use Rattle.pt_script.specs.Faults.{no_memory};
+ghost use Rattle.pt_script.specs.Faults.{no_memory, of_store};
 
 use pt_digits::NoMemory;
 use pt_formula::Position;
+use pt_store::StoreFault;
 use std::alloc::{AllocError, AllocFailed};
 
 /// Why a command of a session is not answered.
@@ -42,5 +43,16 @@ impl<T: Drop> From<AllocFailed<T>> for SessionFault {
 
     fn from(_failed: AllocFailed<T>) -> Self {
         SessionFault::NoMemory
+    }
+}
+
+impl From<StoreFault> for SessionFault {
+    ghost from_gives = { λ error fault. fault ≡ of_store error };
+
+    fn from(error: StoreFault) -> Self {
+        match error {
+            StoreFault::Full { shard, count } => SessionFault::Full { shard, count },
+            StoreFault::NoMemory => SessionFault::NoMemory,
+        }
     }
 }

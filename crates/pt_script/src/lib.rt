@@ -3,14 +3,17 @@
 
 mod asked;
 mod fault;
+mod reply;
 mod session;
 mod solution;
+mod subjects;
 mod telling;
 mod texts;
 
 pub use fault::SessionFault;
 pub use pt_digits::NoMemory;
-pub use session::{Reply, Session};
+pub use reply::Reply;
+pub use session::Session;
 pub use texts::{write_fault, write_refusal, write_too_long};
 
 #[cfg(test)]

@@ -1,52 +1,20 @@
-use crate::asked::{asked_sets, evaluate_roots};
+use crate::asked::{evaluate_roots, one_set, two_sets};
 use crate::fault::SessionFault;
-use crate::solution::LeastSolution;
-use crate::telling::tell;
+use crate::reply::Reply;
+use crate::solution::{Components, LeastSolution};
+use crate::subjects::ConjunctionSet;
+use crate::telling::{tell_one, tell_two};
 use crate::texts::{write_line, write_model, write_pairs};
 use pt_digits::NoMemory;
 use pt_eval::Gate;
 use pt_formula::Position;
 use pt_handles::Handle;
-use pt_query::{WitnessFault, least_member};
-use pt_read::{Command, CommandKind, Constant, ReadRefusal, Reader, Scope};
+use pt_query::{WitnessFault, least_member, queries_tell_of_sets_alone};
+use pt_read::{Command, CommandKind, Constant, Predicate, ReadRefusal, Reader, Scope};
 use pt_store::{Codes, Interner};
-use sqlite_items::Items;
 use std::alloc::Global;
 use std::marker::Model;
 use std::thread::Threads;
-
-/// What is written for a command.
-#[derive(Drop)]
-pub struct Reply {
-    bytes: Vec<u8>,
-    ends: bool,
-}
-
-impl Model for Reply {
-    ghost use Rattle.pt_script.specs.State.{Answer};
-
-    ghost Value = { Answer };
-
-    ghost view = { λ r. record { bytes = r.bytes.items; ends = r.ends } };
-}
-
-impl Reply {
-    ghost use Rattle.std.specs.Prelude.{◌≡◌};
-
-    /// The bytes of the reply, with the end of each of its lines.
-    pub fn bytes(&self) -> &[u8]
-        ensures { result.now ≡ self.now.bytes }
-    {
-        self.bytes.as_slice()
-    }
-
-    /// Whether the command ends the script.
-    pub fn ends(&self) -> bool
-        ensures { result ≡ self.now.ends }
-    {
-        self.ends
-    }
-}
 
 /// A session: a scope, the option `:print-success`, the model where one stands, and the fault that was answered.
 #[derive(Drop)]
@@ -66,17 +34,16 @@ impl Model for Session {
 }
 
 impl Session {
-    ghost use Rattle.std.specs.Prelude.{◌≡◌, ◌<◌, ◌≤◌, ◌^◌, ◌+◌, ◌*◌, ℕ, IfOk, IfErr, IfSome, OnOk, OnErr, length, true};
+    ghost use Rattle.std.specs.Prelude.{◌≡◌, ◌<◌, ◌≤◌, ◌^◌, ◌+◌, ◌*◌, ℕ, [], ◌∷◌, IfOk, IfErr, IfSome, OnOk, OnErr, length, true};
     ghost use Rattle.pt_sets.specs.Lists.{Extends};
-    ghost use Rattle.pt_read.specs.Reader.{Answers};
+    ghost use Rattle.pt_read.specs.Reader.{Answers, OnlyAdds};
     ghost use Rattle.pt_read.specs.Fits.{FitsKind};
-    ghost use Rattle.pt_read.specs.Scope.{constants_in};
+    ghost use Rattle.pt_terms.specs.Names.{constants_in};
     ghost use Rattle.pt_read.specs.declared.command.CommandKind.TheVariants as kind;
     ghost use Rattle.pt_script.specs.State.{initial};
     ghost use Rattle.pt_script.specs.Texts.{value_pairs, model};
-    ghost use Rattle.pt_script.specs.Step.{Executes, Step, IfNarrow, values_of, conjunction_variables, in_scope};
+    ghost use Rattle.pt_script.specs.Step.{Executes, Step, IfNarrow, values_of, conjunction_variables, in_scope, predicates};
     ghost use Rattle.pt_script.specs.Asks.{KnowsAsked, FullOnlyWhereAsked};
-    ghost use Rattle.pt_script.specs.Sets.{AsksOfSets};
     ghost use Rattle.pt_script.specs.Refusals.{RefusesCommand, RefusesSaying, RefusesChange, changes};
 
     /// A new scope, the option off, no model, no fault answered.
@@ -107,6 +74,7 @@ impl Session {
     ) -> Result<Option<Command>, ReadRefusal>
         requires { self.old.scope.given ≤ 2 ^ 31 }
         ensures answer { Answers result reader.old self.old.scope reader.new self.new.scope }
+        ensures adds { OnlyAdds self.old.scope self.new.scope }
         ensures rest { self.new ≡ in_scope self.new.scope self.old }
         ensures fits { IfOk result (λ read. IfSome read (λ c. FitsKind c.kind self.new.scope)) }
     {
@@ -144,10 +112,7 @@ impl Session {
             return Err(fault);
         }
         match self.answer(rt, alloc, &command, store, pass, bound, workers, gate) {
-            Ok(bytes) => Ok(Reply {
-                bytes,
-                ends: is_exit(&command.kind),
-            }),
+            Ok(bytes) => Ok(Reply::new(bytes, is_exit(&command.kind))),
             Err(fault) => {
                 self.fault = Some(fault);
                 Err(fault)
@@ -186,14 +151,15 @@ impl Session {
             CommandKind::CheckSat => {
                 self.check_sat(rt, alloc, command, store, pass, bound, workers, gate)
             }
-            CommandKind::SetEqual(_, _)
-            | CommandKind::SetSubset(_, _)
-            | CommandKind::SetEmpty(_)
-            | CommandKind::SetFinite(_)
-            | CommandKind::SetStates(_)
-            | CommandKind::SetMember(_, _)
-            | CommandKind::SetList(_, _) => {
-                self.query(rt, alloc, command, store, pass, bound, workers, gate)
+            CommandKind::SetEqual(p, q) | CommandKind::SetSubset(p, q) => self.query_two(
+                rt, alloc, command, p, q, store, pass, bound, workers, gate,
+            ),
+            CommandKind::SetEmpty(p)
+            | CommandKind::SetFinite(p)
+            | CommandKind::SetStates(p)
+            | CommandKind::SetMember(p, _)
+            | CommandKind::SetList(p, _) => {
+                self.query_one(rt, alloc, command, p, store, pass, bound, workers, gate)
             }
             CommandKind::GetValue { constants } => {
                 self.say_values(alloc, command.position, constants.as_slice())
@@ -239,6 +205,7 @@ impl Session {
         ensures err { IfErr result (RefusesCommand I.Pass.home (I.limit_of store.now) (I.Pass.lists pass.new) self.old command.now bound) }
         ensures offers { I.Pass.offered pass.new ≤ I.Pass.offered pass.old + (length self.old.scope.formula + 2) * bound }
     {
+        queries_tell_of_sets_alone(&ConjunctionSet { scope: &self.scope });
         let roots = [self.scope.conjunction()];
         let handles = evaluate_roots(
             rt,
@@ -257,12 +224,13 @@ impl Session {
         Ok(reply)
     }
 
-    /// What a set command says.
-    fn query<I: Interner, G: Gate, R: Threads + Sync>(
+    /// What a command of one predicate says.
+    fn query_one<I: Interner, G: Gate, R: Threads + Sync>(
         &self,
         rt: &R,
         alloc: Global,
         command: &Command,
+        p: &Predicate,
         store: &I,
         pass: &mut I::Pass,
         bound: u32,
@@ -270,7 +238,41 @@ impl Session {
         gate: &G,
     ) -> Result<Vec<u8>, SessionFault>
         requires fits { FitsKind command.now.kind self.now.scope }
-        requires asks { AsksOfSets command.now.kind }
+        requires about { predicates command.now.kind ≡ p.now ∷ [] }
+        requires owned { I.owns store.now pass.old }
+        requires some { 0 < bound }
+        requires few { bound ≤ 65536 }
+        requires some_worker { 0 < workers }
+        requires few_workers { workers ≤ 16 }
+        ensures kept { I.owns store.now pass.new }
+        ensures extends { Extends (I.Pass.lists pass.old) (I.Pass.lists pass.new) }
+        ensures ok { IfOk result (λ reply. Step self.now command.now bound reply.items self.now) }
+        ensures asked { OnOk result (KnowsAsked I.Pass.home (I.Pass.lists pass.new) self.now.scope command.now.kind bound) }
+        ensures err { IfErr result (RefusesCommand I.Pass.home (I.limit_of store.now) (I.Pass.lists pass.new) self.now command.now bound) }
+        ensures offers { I.Pass.offered pass.new ≤ I.Pass.offered pass.old + (length self.now.scope.formula + 1) * bound }
+    {
+        let scope = &self.scope;
+        let a = one_set(rt, alloc, store, pass, scope, p, bound, workers, gate)?;
+        let reply = tell_one(alloc, &*pass, scope, &command.kind, p, command.position, a)?;
+        Ok(reply)
+    }
+
+    /// What a command of two predicates says.
+    fn query_two<I: Interner, G: Gate, R: Threads + Sync>(
+        &self,
+        rt: &R,
+        alloc: Global,
+        command: &Command,
+        p: &Predicate,
+        q: &Predicate,
+        store: &I,
+        pass: &mut I::Pass,
+        bound: u32,
+        workers: u32,
+        gate: &G,
+    ) -> Result<Vec<u8>, SessionFault>
+        requires fits { FitsKind command.now.kind self.now.scope }
+        requires about { predicates command.now.kind ≡ p.now ∷ q.now ∷ [] }
         requires owned { I.owns store.now pass.old }
         requires some { 0 < bound }
         requires few { bound ≤ 65536 }
@@ -283,27 +285,21 @@ impl Session {
         ensures err { IfErr result (RefusesCommand I.Pass.home (I.limit_of store.now) (I.Pass.lists pass.new) self.now command.now bound) }
         ensures offers { I.Pass.offered pass.new ≤ I.Pass.offered pass.old + (length self.now.scope.formula + 2) * bound }
     {
-        let kind = &command.kind;
-        let handles = asked_sets(
-            rt,
-            alloc,
-            store,
-            pass,
-            &self.scope,
-            kind,
-            bound,
-            workers,
-            gate,
-        )?;
-        tell(
+        let scope = &self.scope;
+        let (a, b) = two_sets(rt, alloc, store, pass, scope, p, q, bound, workers, gate)?;
+        let reply = tell_two(
             alloc,
             &*pass,
-            &self.scope,
-            kind,
+            scope,
+            &command.kind,
+            p,
+            q,
             command.position,
             bound,
-            &handles,
-        )
+            a,
+            b,
+        )?;
+        Ok(reply)
     }
 
     /// The values of constants in the model.
@@ -491,7 +487,7 @@ fn least_solution<P: Codes>(
     ensures none { IfOk result (λ found. IfNone found (IsEmptySet solutions.tracks (SetOfHandle (P.lists pass.now) solutions))) }
 {
     match least_member(alloc, pass, solutions) {
-        Ok(Some(z)) => Ok(Some(LeastSolution::Narrow(Items::from_slice(alloc, z.as_slice())?))),
+        Ok(Some(z)) => Ok(Some(LeastSolution::Narrow(Components::new(z)))),
         Ok(None) => Ok(None),
         Err(WitnessFault::Wide { letters }) => Ok(Some(LeastSolution::Wide { letters })),
         Err(WitnessFault::NoMemory) => Err(NoMemory),

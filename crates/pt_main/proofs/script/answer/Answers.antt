@@ -40,18 +40,18 @@ pub returns-in-Some-clause-answer : goal.returns-in-Some-clause-answer
 returns-in-Some-clause-answer g c =
     let answer = rw c.in-Ok-Some.field-0-is at c.in-Ok-Some.ensures.answer in
     let told = subst (λ (t : Standing). CommandTold t c.in-Ok-Some.command c.args.bound c.answer_command-told.new.session (g.K.Sink.written c.commands.sink) (g.K.Sink.written c.answer_command-told.new.sink) (Some c.in-Some.status)) c.read_command.ensures.rest c.in-Some.ensures.told in
-    ends_with (read c.commands.invariant.underway c.in-Ok-Some.command c.read_command.new.self.scope (left c.read_command.new.reader) answer) c.answer_command-told.new.session (g.K.Sink.written c.answer_command-told.new.sink) c.in-Some.status told
+    ends_with (read c.commands.invariant.underway c.in-Ok-Some.command c.read_command.new.self.scope (left c.read_command.new.reader) answer c.read_command.ensures.adds) c.answer_command-told.new.session (g.K.Sink.written c.answer_command-told.new.sink) c.in-Some.status told
 
 pub returns-in-Some-clause-known : goal.returns-in-Some-clause-known
 returns-in-Some-clause-known g c =
     let answer = rw c.in-Ok-Some.field-0-is at c.in-Ok-Some.ensures.answer in
     let told = subst (λ (t : Standing). CommandTold t c.in-Ok-Some.command c.args.bound c.answer_command-told.new.session (g.K.Sink.written c.commands.sink) (g.K.Sink.written c.answer_command-told.new.sink) (Some c.in-Some.status)) c.read_command.ensures.rest c.in-Some.ensures.told in
-    ends_known (read c.commands.invariant.underway c.in-Ok-Some.command c.read_command.new.self.scope (left c.read_command.new.reader) answer) c.longer_lists_know.ensures c.answer_command-told.new.session (g.K.Sink.written c.answer_command-told.new.sink) c.in-Some.status (g.I.Pass.Codes.lists c.answer_command-told.new.pass) c.in-Some.ensures.extends told c.in-Some.ensures.asked
+    ends_known (read c.commands.invariant.underway c.in-Ok-Some.command c.read_command.new.self.scope (left c.read_command.new.reader) answer c.read_command.ensures.adds) c.longer_lists_know.ensures c.answer_command-told.new.session (g.K.Sink.written c.answer_command-told.new.sink) c.in-Some.status (g.I.Pass.Codes.lists c.answer_command-told.new.pass) c.in-Some.ensures.extends told c.in-Some.ensures.asked
 
 pub returns-in-Some-clause-offers : goal.returns-in-Some-clause-offers
 returns-in-Some-clause-offers g c =
     let answer = rw c.in-Ok-Some.field-0-is at c.in-Ok-Some.ensures.answer in
-    within (read c.commands.invariant.underway c.in-Ok-Some.command c.read_command.new.self.scope (left c.read_command.new.reader) answer) (g.I.Pass.Codes.offered c.answer_command-told.new.pass) c.in-Some.ensures.offers
+    within (read c.commands.invariant.underway c.in-Ok-Some.command c.read_command.new.self.scope (left c.read_command.new.reader) answer c.read_command.ensures.adds) (g.I.Pass.Codes.offered c.answer_command-told.new.pass) c.in-Some.ensures.offers
 
 pub returns-in-Some-clause-extends : goal.returns-in-Some-clause-extends
 returns-in-Some-clause-extends g c = Extends-trans _ _ _ c.commands.invariant.extends c.in-Some.ensures.extends
@@ -69,7 +69,7 @@ commands-preserved g c =
     let answer = rw c.in-Ok-Some.field-0-is at c.in-Ok-Some.ensures.answer in
     let told = subst (λ (t : Standing). CommandTold t c.in-Ok-Some.command c.args.bound c.answer_command-told.new.session (g.K.Sink.written c.commands.sink) (g.K.Sink.written c.answer_command-told.new.sink) None) c.read_command.ensures.rest c.in-None.ensures.told in
     record {
-      underway = goes_on (read c.commands.invariant.underway c.in-Ok-Some.command c.read_command.new.self.scope (left c.read_command.new.reader) answer) c.longer_lists_know.ensures told.1.0 c.answer_command-told.new.session told.1.1 told.0 (g.K.Sink.written c.answer_command-told.new.sink) told.1.2 (g.I.Pass.Codes.lists c.answer_command-told.new.pass) c.in-None.ensures.extends c.in-None.ensures.asked (g.I.Pass.Codes.offered c.answer_command-told.new.pass) c.in-None.ensures.offers;
+      underway = goes_on (read c.commands.invariant.underway c.in-Ok-Some.command c.read_command.new.self.scope (left c.read_command.new.reader) answer c.read_command.ensures.adds) c.longer_lists_know.ensures told.1.0 c.answer_command-told.new.session told.1.1 told.0 (g.K.Sink.written c.answer_command-told.new.sink) told.1.2 (g.I.Pass.Codes.lists c.answer_command-told.new.pass) c.in-None.ensures.extends c.in-None.ensures.asked (g.I.Pass.Codes.offered c.answer_command-told.new.pass) c.in-None.ensures.offers;
       counted = omega (arith, c.commands.invariant.counted, c.in-None.ensures.counted);
       extends = Extends-trans _ _ _ c.commands.invariant.extends c.in-None.ensures.extends;
       kept = c.in-None.ensures.kept;

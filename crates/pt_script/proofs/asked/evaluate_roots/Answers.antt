@@ -1,16 +1,12 @@
-use Rattle.std.proofs.Common.{◌<◌, List, length, sym, subst}
-use Rattle.std.specs.List.{AllByRecursion}
+use Rattle.std.proofs.Common.{List, subst}
 use Rattle.pt_eval.specs.Evaluating.{KnowsReached}
 use Rattle.pt_formula.specs.declared.node.Node.{Node}
 use Rattle.pt_formula.specs.declared.node.Position.{Position}
-use Rattle.pt_script.proofs.AskedSets.{reached-within, knows-nodes, refuses-nodes}
+use Rattle.pt_script.proofs.AskedSets.{knows-nodes, refuses-nodes}
 use Rattle.pt_script.proofs.asked.evaluate_roots.Goals as goal
 
 pub position-requires : goal.position-requires
-position-requires g c =
-    let f = c.formula-formula.result.now in
-    let inside = subst (λ (f : List (Node × Position)). AllByRecursion (λ root. root < length f) c.args.roots.now) (sym c.formula-formula.ensures) c.requires.roots in
-    reached-within f c.len-formula.ensures.formula c.args.roots.now inside c.in-Err-States.node (rw c.in-Err-States.field-0-is at c.in-Err-States.ensures.err).reached
+position-requires g c = rw c.in-Err-States.field-0-is at c.in-Err-States.ensures.node
 
 pub returns-in-Ok-clause-reached : goal.returns-in-Ok-clause-reached
 returns-in-Ok-clause-reached g c = rw c.formula-formula.ensures at c.in-Ok.ensures.reached
@@ -19,10 +15,10 @@ pub returns-in-Ok-clause-asked : goal.returns-in-Ok-clause-asked
 returns-in-Ok-clause-asked g c =
     let home = g.I.Pass.Codes.home in
     let lists = g.I.Pass.Codes.lists c.evaluate.new.pass in
-    knows-nodes c.widening_puts_no_condition_on_added_variables.ensures.holds home lists c.args.scope.now c.args.roots.now c.args.bound
+    knows-nodes c.handles_of_solutions_are_widened_by_tracks.ensures.own home lists c.args.scope.now c.args.roots.now c.args.bound
     (subst (λ (f : List (Node × Position)). KnowsReached g.I.Pass.Codes.home (g.I.Pass.Codes.lists c.evaluate.new.pass) f c.args.roots.now) c.formula-formula.ensures c.in-Ok.ensures.reached)
 
 pub returns-in-Err-Full-clause-err : goal.returns-in-Err-Full-clause-err
 returns-in-Err-Full-clause-err g c =
-    refuses-nodes c.widening_puts_no_condition_on_added_variables.ensures.holds g.I.Pass.Codes.home (g.I.Interner.limit_of c.args.store.now) (g.I.Pass.Codes.lists c.evaluate.new.pass)
+    refuses-nodes c.handles_of_solutions_are_widened_by_tracks.ensures.own g.I.Pass.Codes.home (g.I.Interner.limit_of c.args.store.now) (g.I.Pass.Codes.lists c.evaluate.new.pass)
     c.args.scope.now c.args.roots.now c.args.bound c.in-Err-Full.shard c.in-Err-Full.count (rw (c.formula-formula.ensures, c.in-Err-Full.field-0-is) at c.in-Err-Full.ensures.err)

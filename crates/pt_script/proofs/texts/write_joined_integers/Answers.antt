@@ -1,8 +1,7 @@
 use Rattle.std.proofs.Common.{◌≡◌, ◌++◌, ◌∷◌, [], ◌∙◌, ap, sym, rules, List, ℕ, ℤ, pos, flat_map, drop, get_or, take, length, ◌-◌}
 use Rattle.std.proofs.lemmas.List.{take_all}
-use Rattle.pt_code.proofs.Parts.{written-more}
 use Rattle.pt_script.specs.Texts.{integer}
-use Rattle.pt_script.proofs.Joining.{join-first, more, others-whole}
+use Rattle.pt_script.proofs.Joining.{join-first, more, others-whole, written-more}
 use Rattle.pt_script.proofs.texts.write_joined_integers.Goals as goal
 
 pub loop-x-preserved : goal.loop-x-preserved

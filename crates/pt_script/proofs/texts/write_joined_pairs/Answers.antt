@@ -1,6 +1,6 @@
 use Rattle.std.proofs.Common.{◌≡◌, ◌++◌, ◌∷◌, ◌∙◌, ap, sym, List, ℕ, flat_map, drop, get_or, take, length, ◌-◌}
 use Rattle.pt_formula.specs.Truth.{valuation}
-use Rattle.pt_read.specs.declared.command.Constant.{Constant}
+use Rattle.pt_terms.specs.declared.meaning.Constant.{Constant}
 use Rattle.pt_script.specs.Texts.{value_pair}
 use Rattle.pt_script.proofs.Joining.{join-first, more, others-whole}
 use Rattle.std.proofs.lemmas.List.{take_all}

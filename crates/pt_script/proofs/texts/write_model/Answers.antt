@@ -1,8 +1,8 @@
 use Rattle.std.proofs.Common.{◌≡◌, get_or, ap, ◌∙◌, ◌++◌}
-use Rattle.pt_code.proofs.Parts.{written-more}
 use Rattle.pt_formula.specs.Truth.{valuation}
-use Rattle.pt_read.specs.declared.command.Constant.{Constant}
+use Rattle.pt_terms.specs.declared.meaning.Constant.{Constant}
 use Rattle.pt_script.specs.Texts.{model_line}
+use Rattle.pt_script.proofs.Joining.{written-more}
 use Rattle.pt_script.proofs.texts.write_model.Goals as goal
 
 pub loop-constant-preserved : goal.loop-constant-preserved
