@@ -1,0 +1,14 @@
+pub mod Enumerating
+pub mod Regular
+pub mod Searching
+pub mod Connectives
+pub mod Families
+pub mod Projected
+pub mod Integers
+pub mod Linear
+pub mod Trees
+pub mod Deciding
+pub mod Costs
+pub mod Bounding
+pub mod Ordered
+pub mod Refusing
