@@ -164,23 +164,6 @@ fn is_outside<R: Threads + Sync>(rt: &R, alloc: Global, state: u32, x: i128) -> 
     Ok(table.member(start, &[x]))
 }
 
-/// Whether the complement of the empty set is the handle of all numbers.
-fn all_are_outside_none<R: Threads + Sync>(rt: &R, alloc: Global) -> Result<bool, Fail> {
-    let (store, mut pass) = LocalStore::new(alloc, 1, 100, OneShard)?;
-    let none = adopt(rt, alloc, &store, &mut pass, &sign_table(alloc, 0)?, 1)?;
-    let others = complement(rt, alloc, &store, &mut pass, none)?;
-    let mut builder = Builder::new(alloc, 1)?;
-    let whole = builder.state()?;
-    for letter in 0..2u16 {
-        builder.edge(whole, letter, whole);
-        builder.output(whole, letter, true);
-    }
-    let table = builder.finish(alloc)?;
-    table.is_automaton();
-    let all = adopt(rt, alloc, &store, &mut pass, &table, 0)?;
-    Ok(same(others, all))
-}
-
 /// Whether a pair is in {0} over the second of two tracks.
 fn is_second_zero<R: Threads + Sync>(rt: &R, alloc: Global, z: [i128; 2]) -> Result<bool, Fail> {
     let (store, mut pass) = LocalStore::new(alloc, 1, 100, OneShard)?;
@@ -197,7 +180,6 @@ fn complements_and_more_tracks(rt: HostRuntime) -> Result<(), Fail> {
         assert_eq!(rt; is_outside(&rt, alloc, 0, x)?, is_other);
         assert!(rt; is_outside(&rt, alloc, 1, x)?);
     }
-    assert!(rt; all_are_outside_none(&rt, alloc)?);
     for (z, is_in) in [
         ([5, 0], true),
         ([-3, 0], true),
