@@ -12,9 +12,9 @@ pub enum Relation {
     Above,
 }
 
-/// What the first item of a term calls for.
+/// An operator of the theories.
 #[derive(Clone, Copy, Debug, PartialEq, Eq)]
-pub enum Head {
+pub enum Operator {
     Not,
     And,
     Or,
@@ -26,6 +26,12 @@ pub enum Head {
     Minus,
     Times,
     Compare(Relation),
+}
+
+/// What the first item of a term calls for.
+#[derive(Clone, Copy, Debug, PartialEq, Eq)]
+pub enum Head {
+    Apply(Operator),
     Let,
     Exists,
     Forall,
@@ -96,21 +102,21 @@ pub fn is_reserved_word(name: &[u8]) -> bool
 }
 
 const HEADS: [(&[u8], Head); 26] = [
-    (b"not", Head::Not),
-    (b"and", Head::And),
-    (b"or", Head::Or),
-    (b"xor", Head::Xor),
-    (b"=>", Head::Implies),
-    (b"distinct", Head::Distinct),
-    (b"ite", Head::Ite),
-    (b"+", Head::Plus),
-    (b"-", Head::Minus),
-    (b"*", Head::Times),
-    (b"=", Head::Compare(Relation::Equal)),
-    (b"<=", Head::Compare(Relation::AtMost)),
-    (b"<", Head::Compare(Relation::Below)),
-    (b">=", Head::Compare(Relation::AtLeast)),
-    (b">", Head::Compare(Relation::Above)),
+    (b"not", Head::Apply(Operator::Not)),
+    (b"and", Head::Apply(Operator::And)),
+    (b"or", Head::Apply(Operator::Or)),
+    (b"xor", Head::Apply(Operator::Xor)),
+    (b"=>", Head::Apply(Operator::Implies)),
+    (b"distinct", Head::Apply(Operator::Distinct)),
+    (b"ite", Head::Apply(Operator::Ite)),
+    (b"+", Head::Apply(Operator::Plus)),
+    (b"-", Head::Apply(Operator::Minus)),
+    (b"*", Head::Apply(Operator::Times)),
+    (b"=", Head::Apply(Operator::Compare(Relation::Equal))),
+    (b"<=", Head::Apply(Operator::Compare(Relation::AtMost))),
+    (b"<", Head::Apply(Operator::Compare(Relation::Below))),
+    (b">=", Head::Apply(Operator::Compare(Relation::AtLeast))),
+    (b">", Head::Apply(Operator::Compare(Relation::Above))),
     (b"let", Head::Let),
     (b"exists", Head::Exists),
     (b"forall", Head::Forall),

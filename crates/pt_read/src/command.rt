@@ -1,17 +1,20 @@
+use crate::constants::Constants;
+use crate::integers::Integers;
 use pt_formula::Position;
-use pt_terms::meaning::{Constant, Meaning};
-use sqlite_items::Items;
+use pt_terms::bytes::Bytes;
+use pt_terms::meaning::Meaning;
+use pt_terms::parameters::Parameters;
 
 #[derive(Drop)]
 pub struct Definition {
-    pub name: Items<u8>,
-    pub parameters: Items<u32>,
+    pub name: Bytes,
+    pub parameters: Parameters,
     pub meaning: Meaning,
 }
 
 #[derive(Drop)]
 pub struct Predicate {
-    pub parameters: Items<u32>,
+    pub parameters: Parameters,
     pub body: u32,
 }
 
@@ -20,23 +23,23 @@ pub enum CommandKind {
     SetLogic,
     SetInfo,
     SetOption { success: Option<bool> },
-    Declare { name: Items<u8>, variable: u32 },
+    Declare { name: Bytes, variable: u32 },
     Define { definition: Definition },
     Assert { term: u32, conjunction: u32 },
     CheckSat,
-    GetValue { constants: Items<Constant> },
+    GetValue { constants: Constants },
     GetModel,
     Push(u64),
     Pop(u64),
     Reset,
-    Echo(Items<u8>),
+    Echo(Bytes),
     Exit,
     SetEqual(Predicate, Predicate),
     SetSubset(Predicate, Predicate),
     SetEmpty(Predicate),
     SetFinite(Predicate),
     SetStates(Predicate),
-    SetMember(Predicate, Items<i128>),
+    SetMember(Predicate, Integers),
     SetList(Predicate, u32),
 }
 

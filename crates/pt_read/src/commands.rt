@@ -23,10 +23,10 @@ use pt_grammar::exprs::{is_symbol, place, symbol, text};
 use pt_grammar::item_forms::fault_of_items;
 use pt_grammar::verbs::{Row, Verb, row_of};
 use pt_syntax::{Position, ReadKind, ReadRefusal, SExpr};
+use pt_terms::bytes::Bytes;
 use pt_terms::elaborator::Elaborator;
 use pt_terms::refusals::refused;
 use pt_terms::symbols::Symbols;
-use sqlite_items::Items;
 use std::alloc::Global;
 
 /// The logic of a script.
@@ -88,8 +88,8 @@ fn echo(alloc: Global, items: &[SExpr]) -> Result<CommandKind, ReadRefusal>
     match items {
         [e, ..] => {
             let literal = match text(e) {
-                Some(literal) => Items::from_slice(alloc, literal)?,
-                None => Items::new(alloc),
+                Some(literal) => Bytes::copy_of(alloc, literal)?,
+                None => Bytes::none(alloc),
             };
             Ok(CommandKind::Echo(literal))
         }

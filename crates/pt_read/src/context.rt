@@ -6,13 +6,14 @@ ghost use Rattle.pt_terms.specs.Symbols.{shown_use};
 ghost use Rattle.pt_read.specs.Commands.{constant_by};
 ghost use Rattle.pt_terms.specs.Gives.{Says};
 
+use crate::constants::Constants;
 use pt_grammar::exprs::{items_in, name_in, place, symbol};
 use pt_grammar::words::{is, is_reserved_word};
 use pt_syntax::{Position, ReadKind, ReadRefusal, SExpr};
+use pt_terms::bytes::Bytes;
 use pt_terms::meaning::Constant;
-use pt_terms::refusals::{no_memory, refused};
+use pt_terms::refusals::refused;
 use pt_terms::symbols::{Symbols, Use};
-use sqlite_items::Items;
 use std::alloc::Global;
 use std::marker::Model;
 
@@ -98,26 +99,16 @@ impl<'s> Context<'s> {
     }
 
     /// The declared constants that the symbols of a list name, in order.
-    pub(crate) fn constants(
-        &self,
-        alloc: Global,
-        list: &SExpr,
-    ) -> Result<Items<Constant>, ReadRefusal>
+    pub(crate) fn constants(&self, alloc: Global, list: &SExpr) -> Result<Constants, ReadRefusal>
         ensures { Says (λ v. v) result (each (λ e. constant_of self.now e (symbol_of e)) (items_or_none (items_of list.now))) }
     {
         let es = items_in(list);
-        let mut found = Items::new(alloc);
+        let mut found = Vec::new(alloc);
         for e in es {
-            match self.constant(alloc, e) {
-                Ok(c) => {
-                    if found.push(c).is_err() {
-                        return Err(no_memory());
-                    }
-                }
-                Err(refusal) => return Err(refusal),
-            }
+            let c = self.constant(alloc, e)?;
+            found.push(c)?;
         }
-        Ok(found)
+        Ok(Constants::new(found))
     }
 }
 
@@ -139,7 +130,7 @@ fn constant_used(
 {
     match found {
         Some(Use::Constant(v)) => {
-            let name = Items::from_slice(alloc, name)?;
+            let name = Bytes::copy_of(alloc, name)?;
             Ok(Constant { name, variable: *v })
         }
         Some(Use::Definition(..)) => Err(refused(ReadKind::Unsupported, at)),

@@ -22,12 +22,13 @@ use pt_syntax::{ReadKind, ReadRefusal, SExpr};
 use pt_terms::arithmetic::form_of_variable;
 use pt_terms::binders::int_only;
 use pt_terms::bindings::Bindings;
+use pt_terms::bytes::Bytes;
 use pt_terms::elaborator::Elaborator;
 use pt_terms::environment::Environment;
 use pt_terms::laws::names_stay_in_range;
 use pt_terms::meaning::Meaning;
-use pt_terms::refusals::{no_memory, refused};
-use sqlite_items::Items;
+use pt_terms::parameters::Parameters;
+use pt_terms::refusals::refused;
 use std::alloc::Global;
 
 /// Binds a name to a variable's form.
@@ -40,15 +41,9 @@ fn bind_variable(
     ensures ok { OnOk result (bound.new ≡ as_bound (name.now, v) ∷ bound.old) }
     ensures err { IfErr result (λ e. e ≡ no_memory_refusal) }
 {
-    match form_of_variable(alloc, v) {
-        Ok(f) => {
-            if bound.push(alloc, name, Meaning::Int(f)).is_err() {
-                return Err(no_memory());
-            }
-            Ok(())
-        }
-        Err(_) => Err(no_memory()),
-    }
+    let f = form_of_variable(alloc, v)?;
+    bound.push(alloc, name, Meaning::Int(f))?;
+    Ok(())
 }
 
 /// A constant that is declared, with the next variable number.
@@ -65,7 +60,7 @@ fn declared(
 {
     let x = context.new_name(name)?;
     int_only(sort)?;
-    let name = Items::from_slice(alloc, x)?;
+    let name = Bytes::copy_of(alloc, x)?;
     let variable = work.fresh()?;
     Ok(CommandKind::Declare { name, variable })
 }
@@ -238,9 +233,7 @@ fn bind_parameter(
     names_stay_in_range();
     let x = parameter(work, bound, e)?;
     bind_variable(alloc, bound, x.0, x.1)?;
-    if numbers.push(x.1).is_err() {
-        return Err(no_memory());
-    }
+    numbers.push(x.1)?;
     Ok(())
 }
 
@@ -279,9 +272,7 @@ fn body_term(
     ensures grows { Grows work.old work.new }
 {
     let mut env = Environment::new(alloc, context.live());
-    if env.bind_all(alloc, &bound).is_err() {
-        return Err(no_memory());
-    }
+    env.bind_all(alloc, &bound)?;
     work.whole_term(alloc, &mut env, e)
 }
 
@@ -304,10 +295,10 @@ fn definition_of(
 {
     let m = body_term(work, alloc, context, bound, body)?;
     let meaning = of_this_sort(is_int, place(body), m)?;
-    let name = Items::from_slice(alloc, name)?;
+    let name = Bytes::copy_of(alloc, name)?;
     let definition = Definition {
         name,
-        parameters: Items::from_vec(numbers),
+        parameters: Parameters::new(numbers),
         meaning,
     };
     Ok(CommandKind::Define { definition })

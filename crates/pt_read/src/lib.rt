@@ -3,8 +3,10 @@
 
 mod command;
 mod commands;
+mod constants;
 mod context;
 mod declarations;
+mod integers;
 mod item_parts;
 mod numerals;
 mod predicates;
@@ -14,8 +16,12 @@ mod scope;
 mod tests;
 
 pub use command::{Command, CommandKind, Definition, Predicate};
+pub use constants::Constants;
+pub use integers::Integers;
 pub use pt_digits::NoMemory;
 pub use pt_syntax::{ReadKind, ReadRefusal};
+pub use pt_terms::bytes::Bytes;
 pub use pt_terms::meaning::{Constant, Meaning};
+pub use pt_terms::parameters::Parameters;
 pub use reader::Reader;
 pub use scope::Scope;

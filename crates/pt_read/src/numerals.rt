@@ -4,11 +4,10 @@ ghost use Rattle.pt_terms.specs.Elaboration.{each};
 ghost use Rattle.pt_read.specs.Commands.{number, number_or_one, integer, negated};
 ghost use Rattle.pt_terms.specs.Gives.{Says};
 
+use crate::integers::Integers;
 use pt_grammar::exprs::{items, numeral, place};
 use pt_syntax::{ReadRefusal, SExpr};
 use pt_terms::numerals::number_at;
-use pt_terms::refusals::no_memory;
-use sqlite_items::Items;
 use std::alloc::Global;
 
 /// The number of a numeral.
@@ -49,15 +48,13 @@ fn integer(e: &SExpr) -> Result<i128, ReadRefusal>
 }
 
 /// The integers that items stand for, in order.
-pub(crate) fn integers(alloc: Global, es: &[SExpr]) -> Result<Items<i128>, ReadRefusal>
+pub(crate) fn integers(alloc: Global, es: &[SExpr]) -> Result<Integers, ReadRefusal>
     ensures { Says (λ v. v) result (each integer es.now) }
 {
-    let mut found = Items::new(alloc);
+    let mut found = Vec::new(alloc);
     for e in es {
         let z = integer(e)?;
-        if found.push(z).is_err() {
-            return Err(no_memory());
-        }
+        found.push(z)?;
     }
-    Ok(found)
+    Ok(Integers::new(found))
 }

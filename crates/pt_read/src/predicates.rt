@@ -22,13 +22,13 @@ use pt_grammar::exprs::{name_in, place};
 use pt_syntax::{ReadKind, ReadRefusal, SExpr};
 use pt_terms::elaborator::Elaborator;
 use pt_terms::meaning::Meaning;
+use pt_terms::parameters::Parameters;
 use pt_terms::refusals::refused;
 use pt_terms::symbols::Use;
-use sqlite_items::Items;
 use std::alloc::Global;
 
 /// Whether all these variables are among the parameters.
-fn are_among(parameters: &Items<u32>, variables: &[u32]) -> bool
+fn are_among(parameters: &Parameters, variables: &[u32]) -> bool
     ensures { result ≡ list_all (λ v. contains v parameters.now) variables.now }
 {
     for v in variables {
@@ -43,7 +43,7 @@ fn are_among(parameters: &Items<u32>, variables: &[u32]) -> bool
 fn same_length(x: &Predicate, y: &Predicate, at: Position) -> Result<(), ReadRefusal>
     ensures { Says (λ _. tt {0}) result (require (length x.now.parameters == length y.now.parameters) Sort at) }
 {
-    if x.parameters.len() == y.parameters.len() {
+    if x.parameters.as_slice().len() == y.parameters.as_slice().len() {
         Ok(())
     } else {
         Err(refused(ReadKind::Sort, at))
@@ -51,7 +51,7 @@ fn same_length(x: &Predicate, y: &Predicate, at: Position) -> Result<(), ReadRef
 }
 
 /// Whether a node's free variables are among the parameters.
-fn is_closed(work: &Elaborator, parameters: &Items<u32>, body: u32) -> bool
+fn is_closed(work: &Elaborator, parameters: &Parameters, body: u32) -> bool
     requires { body < length work.now.formula }
     ensures { result ≡ list_all (λ v. contains v parameters.now) (variables_of work.now.formula body) }
 {
@@ -63,7 +63,7 @@ fn predicate_with(
     work: &Elaborator,
     alloc: Global,
     at: Position,
-    parameters: &Items<u32>,
+    parameters: &Parameters,
     body: u32,
 ) -> Result<Predicate, ReadRefusal>
     requires { body < length work.now.formula }
@@ -72,10 +72,10 @@ fn predicate_with(
     if !is_closed(work, parameters, body) {
         return Err(refused(ReadKind::Unsupported, at));
     }
-    if parameters.len() > MAX_TRACKS {
+    if parameters.as_slice().len() > MAX_TRACKS {
         return Err(refused(ReadKind::Tracks, at));
     }
-    let parameters = Items::from_slice(alloc, parameters.as_slice())?;
+    let parameters = Parameters::copy_of(alloc, parameters.as_slice())?;
     Ok(Predicate { parameters, body })
 }
 

@@ -4,11 +4,12 @@ use pt_digits::NoMemory;
 use pt_formula::{Formula, NodeId, Var};
 use pt_syntax::{Position, ReadRefusal, SExpr};
 use pt_terms::arithmetic::copy_of_meaning;
+use pt_terms::bytes::Bytes;
 use pt_terms::elaborator::Elaborator;
 use pt_terms::laws::terms_are_over_the_names_that_they_see;
 use pt_terms::meaning::Constant;
+use pt_terms::parameters::Parameters;
 use pt_terms::symbols::{Symbols, Use};
-use sqlite_items::Items;
 use std::alloc::Global;
 use std::marker::Model;
 
@@ -115,7 +116,7 @@ impl Scope {
         ensures value { result ≡ conjunction self.now }
         ensures node { result < length self.now.formula }
     {
-        let _formula = self.work.formula().len();
+        self.work.formula().is_formula();
         match self.assertions.last() {
             Some(last) => last.conjunction,
             None => 0,
@@ -173,20 +174,20 @@ impl Scope {
     {
         terms_are_over_the_names_that_they_see();
         let joined = self.joined();
-        let _before = self.work.formula().len();
+        self.work.formula().is_formula();
         let command = commands::elaborate(alloc, &mut self.work, &self.symbols, joined, at, items);
-        let _after = self.work.formula().len();
+        self.work.formula().is_formula();
         command
     }
 
-    fn declare(&mut self, alloc: Global, name: &Items<u8>, variable: Var) -> Result<(), NoMemory>
+    fn declare(&mut self, alloc: Global, name: &Bytes, variable: Var) -> Result<(), NoMemory>
         requires { IsNewConstant self.old name.now variable }
         ensures ok { OnOk result (self.new ≡ after (kind.Declare name.now variable) self.old) }
         ensures err { OnErr result (self.new ≡ self.old) }
     {
         let key = Vec::from_slice(alloc, name.as_slice())?;
         let constant = Constant {
-            name: Items::from_slice(alloc, name.as_slice())?,
+            name: Bytes::copy_of(alloc, name.as_slice())?,
             variable,
         };
         self.constants.push(constant)?;
@@ -203,7 +204,7 @@ impl Scope {
         ensures err { OnErr result (self.new ≡ self.old) }
     {
         let key = Vec::from_slice(alloc, definition.name.as_slice())?;
-        let parameters = Items::from_slice(alloc, definition.parameters.as_slice())?;
+        let parameters = Parameters::copy_of(alloc, definition.parameters.as_slice())?;
         let meaning = copy_of_meaning(alloc, &definition.meaning)?;
         let stands_for = Use::Definition(parameters, meaning);
         self.symbols.push(key, stands_for, self.depth)

@@ -1,3 +1,7 @@
+ghost use Rattle.std.specs.Prelude.{◌≡◌};
+ghost use Rattle.pt_syntax.specs.Rest.{no_memory as no_memory_refusal};
+
+use pt_digits::NoMemory;
 use pt_formula::Position;
 use std::alloc::AllocError;
 
@@ -25,16 +29,28 @@ pub struct ReadRefusal {
     pub position: Position,
 }
 
-impl From<AllocError> for ReadRefusal {
-    ghost use Rattle.std.specs.Prelude.{◌≡◌};
-    ghost use Rattle.pt_syntax.specs.Rest.{no_memory};
+/// Want of memory, which has no place of its own.
+pub fn no_memory() -> ReadRefusal
+    ensures { result ≡ no_memory_refusal }
+{
+    ReadRefusal {
+        kind: ReadKind::NoMemory,
+        position: Position { line: 1, column: 1 },
+    }
+}
 
-    ghost from_gives = { λ _ e. e ≡ no_memory };
+impl From<NoMemory> for ReadRefusal {
+    ghost from_gives = { λ _ e. e ≡ no_memory_refusal };
+
+    fn from(_e: NoMemory) -> ReadRefusal {
+        no_memory()
+    }
+}
+
+impl From<AllocError> for ReadRefusal {
+    ghost from_gives = { λ _ e. e ≡ no_memory_refusal };
 
     fn from(_e: AllocError) -> ReadRefusal {
-        ReadRefusal {
-            kind: ReadKind::NoMemory,
-            position: Position { line: 1, column: 1 },
-        }
+        no_memory()
     }
 }

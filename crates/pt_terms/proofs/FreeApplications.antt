@@ -15,8 +15,8 @@ use Rattle.pt_terms.specs.declared.meaning.Meaning.TheVariants.{Int, Bool as Tru
 use Rattle.pt_terms.specs.Elaboration.{Elab, give, refuse, ◌>>=◌, make, form, each}
 use Rattle.pt_grammar.specs.declared.words.Relation.{Relation}
 use Rattle.pt_grammar.specs.declared.words.Relation.TheVariants as comparison
-use Rattle.pt_grammar.specs.declared.words.Head.{Head}
-use Rattle.pt_grammar.specs.declared.words.Head.TheVariants as word
+use Rattle.pt_grammar.specs.declared.words.Operator.{Operator}
+use Rattle.pt_grammar.specs.declared.words.Operator.TheVariants as symbol
 use Rattle.pt_terms.specs.Theory
 use Rattle.pt_terms.specs.Theory.{Argument}
 use Rattle.pt_terms.proofs.FreeSteps.{Good, Lasts, good-give, good-refuse, good-then, good-weaken}
@@ -156,49 +156,43 @@ arguments-last V F xs = all-last (ArgumentIn V F) (λ a. meaning-lasts V F a.1) 
 good-wrong : (F : Nodes) (V Q : ℕ → Type 0) (p : Position) (xs : List Argument) → Good F Q (ArgumentsIn V F xs) (MeaningIn V F) (refuse Sort p)
 good-wrong F V Q p xs = good-refuse F Q (ArgumentsIn V F xs) (MeaningIn V F) Sort p
 
-pub good-apply : (F : Nodes) (V Q : ℕ → Type 0) → IsWhole F → (p : Position) (head : Head) (xs : List Argument) → Good F Q (ArgumentsIn V F xs) (MeaningIn V F) (Theory.apply p head xs)
-good-apply F V Q whole p word.Not [] = good-wrong F V Q p []
-good-apply F V Q whole p word.Not (a ∷ []) =
+pub good-apply : (F : Nodes) (V Q : ℕ → Type 0) → IsWhole F → (p : Position) (operator : Operator) (xs : List Argument) → Good F Q (ArgumentsIn V F xs) (MeaningIn V F) (Theory.apply p operator xs)
+good-apply F V Q whole p symbol.Not [] = good-wrong F V Q p []
+good-apply F V Q whole p symbol.Not (a ∷ []) =
     good-then F Q (ArgumentsIn V F (a ∷ [])) (λ n. ⊤) (NodeIn V F) (MeaningIn V F) (Theory.truth a) (λ i. Theory.as_truth (make (node.Not i) p)) (λ n n' le k. k) (λ n c. tt) (good-truth F V Q (ArgumentsIn V F (a ∷ [])) a (λ n c. c.0))
     (λ i. good-as-truth F V Q (λ n. ⊤ × NodeIn V F i n) (make (node.Not i) p) (good-make F V Q (λ n. ⊤ × NodeIn V F i n) whole (node.Not i) p (λ n c. (c.1.1, tt))))
-good-apply F V Q whole p word.Not (a ∷ b ∷ more) = good-wrong F V Q p (a ∷ b ∷ more)
-good-apply F V Q whole p word.And [] = good-wrong F V Q p []
-good-apply F V Q whole p word.And (a ∷ rest) = good-of-truths F V Q a rest (Theory.join node.And p) (good-join F V Q whole node.And and-joins p)
-good-apply F V Q whole p word.Or [] = good-wrong F V Q p []
-good-apply F V Q whole p word.Or (a ∷ rest) = good-of-truths F V Q a rest (Theory.join node.Or p) (good-join F V Q whole node.Or or-joins p)
-good-apply F V Q whole p word.Xor [] = good-wrong F V Q p []
-good-apply F V Q whole p word.Xor (a ∷ rest) = good-of-truths F V Q a rest (Theory.join node.Xor p) (good-join F V Q whole node.Xor xor-joins p)
-good-apply F V Q whole p word.Implies [] = good-wrong F V Q p []
-good-apply F V Q whole p word.Implies (a ∷ []) = good-wrong F V Q p (a ∷ [])
-good-apply F V Q whole p word.Implies (a ∷ b ∷ rest) = good-of-truths F V Q a (b ∷ rest) (Theory.implication p) (good-implication F V Q whole p)
-good-apply F V Q whole p (word.Compare r) [] = good-wrong F V Q p []
-good-apply F V Q whole p (word.Compare r) (a ∷ []) = good-wrong F V Q p (a ∷ [])
-good-apply F V Q whole p (word.Compare r) (a ∷ b ∷ rest) = good-as-truth F V Q (ArgumentsIn V F (a ∷ b ∷ rest)) (Theory.relation p r a.0 a.1 (b ∷ rest)) (good-relation F V Q whole p r a.0 a.1 (b ∷ rest))
-good-apply F V Q whole p word.Distinct [] = good-wrong F V Q p []
-good-apply F V Q whole p word.Distinct (a ∷ []) = good-wrong F V Q p (a ∷ [])
-good-apply F V Q whole p word.Distinct (a ∷ b ∷ rest) = good-as-truth F V Q (ArgumentsIn V F (a ∷ b ∷ rest)) (Theory.distinct p a.1 (b ∷ rest)) (good-distinct F V Q whole p a.1 (b ∷ rest))
-good-apply F V Q whole p word.Ite [] = good-wrong F V Q p []
-good-apply F V Q whole p word.Ite (c ∷ []) = good-wrong F V Q p (c ∷ [])
-good-apply F V Q whole p word.Ite (c ∷ a ∷ []) = good-wrong F V Q p (c ∷ a ∷ [])
-good-apply F V Q whole p word.Ite (c ∷ a ∷ b ∷ []) =
+good-apply F V Q whole p symbol.Not (a ∷ b ∷ more) = good-wrong F V Q p (a ∷ b ∷ more)
+good-apply F V Q whole p symbol.And [] = good-wrong F V Q p []
+good-apply F V Q whole p symbol.And (a ∷ rest) = good-of-truths F V Q a rest (Theory.join node.And p) (good-join F V Q whole node.And and-joins p)
+good-apply F V Q whole p symbol.Or [] = good-wrong F V Q p []
+good-apply F V Q whole p symbol.Or (a ∷ rest) = good-of-truths F V Q a rest (Theory.join node.Or p) (good-join F V Q whole node.Or or-joins p)
+good-apply F V Q whole p symbol.Xor [] = good-wrong F V Q p []
+good-apply F V Q whole p symbol.Xor (a ∷ rest) = good-of-truths F V Q a rest (Theory.join node.Xor p) (good-join F V Q whole node.Xor xor-joins p)
+good-apply F V Q whole p symbol.Implies [] = good-wrong F V Q p []
+good-apply F V Q whole p symbol.Implies (a ∷ []) = good-wrong F V Q p (a ∷ [])
+good-apply F V Q whole p symbol.Implies (a ∷ b ∷ rest) = good-of-truths F V Q a (b ∷ rest) (Theory.implication p) (good-implication F V Q whole p)
+good-apply F V Q whole p (symbol.Compare r) [] = good-wrong F V Q p []
+good-apply F V Q whole p (symbol.Compare r) (a ∷ []) = good-wrong F V Q p (a ∷ [])
+good-apply F V Q whole p (symbol.Compare r) (a ∷ b ∷ rest) = good-as-truth F V Q (ArgumentsIn V F (a ∷ b ∷ rest)) (Theory.relation p r a.0 a.1 (b ∷ rest)) (good-relation F V Q whole p r a.0 a.1 (b ∷ rest))
+good-apply F V Q whole p symbol.Distinct [] = good-wrong F V Q p []
+good-apply F V Q whole p symbol.Distinct (a ∷ []) = good-wrong F V Q p (a ∷ [])
+good-apply F V Q whole p symbol.Distinct (a ∷ b ∷ rest) = good-as-truth F V Q (ArgumentsIn V F (a ∷ b ∷ rest)) (Theory.distinct p a.1 (b ∷ rest)) (good-distinct F V Q whole p a.1 (b ∷ rest))
+good-apply F V Q whole p symbol.Ite [] = good-wrong F V Q p []
+good-apply F V Q whole p symbol.Ite (c ∷ []) = good-wrong F V Q p (c ∷ [])
+good-apply F V Q whole p symbol.Ite (c ∷ a ∷ []) = good-wrong F V Q p (c ∷ a ∷ [])
+good-apply F V Q whole p symbol.Ite (c ∷ a ∷ b ∷ []) =
     good-then F Q (ArgumentsIn V F (c ∷ a ∷ b ∷ [])) (ArgumentsIn V F (a ∷ b ∷ [])) (NodeIn V F) (MeaningIn V F) (Theory.truth c) (λ i. Theory.chosen p i a.1 b) (arguments-last V F (a ∷ b ∷ [])) (λ n k. k.1) (good-truth F V Q (ArgumentsIn V F (c ∷ a ∷ b ∷ [])) c (λ n k. k.0))
     (λ i. good-weaken F Q (λ n. FreeIn V F i × MeaningIn V F a.1 n × ArgumentIn V F b n) (λ n. ArgumentsIn V F (a ∷ b ∷ []) n × NodeIn V F i n) (MeaningIn V F) (MeaningIn V F) (Theory.chosen p i a.1 b) (λ n k. (k.1.1, k.0.0, k.0.1.0)) (λ x n k. k) (good-chosen F V Q whole p i a.1 b))
-good-apply F V Q whole p word.Ite (c ∷ a ∷ b ∷ d ∷ more) = good-wrong F V Q p (c ∷ a ∷ b ∷ d ∷ more)
-good-apply F V Q whole p word.Plus [] = good-wrong F V Q p []
-good-apply F V Q whole p word.Plus (a ∷ rest) = good-of-integers F V Q a rest (Theory.sums p) (good-sums F V Q p)
-good-apply F V Q whole p word.Minus [] = good-wrong F V Q p []
-good-apply F V Q whole p word.Minus (a ∷ []) =
+good-apply F V Q whole p symbol.Ite (c ∷ a ∷ b ∷ d ∷ more) = good-wrong F V Q p (c ∷ a ∷ b ∷ d ∷ more)
+good-apply F V Q whole p symbol.Plus [] = good-wrong F V Q p []
+good-apply F V Q whole p symbol.Plus (a ∷ rest) = good-of-integers F V Q a rest (Theory.sums p) (good-sums F V Q p)
+good-apply F V Q whole p symbol.Minus [] = good-wrong F V Q p []
+good-apply F V Q whole p symbol.Minus (a ∷ []) =
     good-then F Q (ArgumentsIn V F (a ∷ [])) (λ n. ⊤) (FormIn V) (MeaningIn V F) (Theory.integer a) (λ f. Theory.as_form (form (form_scale (negsuc 0) f) p)) (λ n n' le k. k) (λ n c. tt) (good-integer F V Q (ArgumentsIn V F (a ∷ [])) a (λ n c. c.0))
     (λ f. good-as-form F V Q (λ n. ⊤ × FormIn V f n) (form (form_scale (negsuc 0) f) p) (good-form F V Q (λ n. ⊤ × FormIn V f n) (form_scale (negsuc 0) f) p (λ n c. scale-in V (negsuc 0) f n c.1)))
-good-apply F V Q whole p word.Minus (a ∷ b ∷ rest) = good-of-integers F V Q a (b ∷ rest) (Theory.differences p) (good-differences F V Q p)
-good-apply F V Q whole p word.Times [] = good-wrong F V Q p []
-good-apply F V Q whole p word.Times (a ∷ rest) = good-of-integers F V Q a rest (Theory.products p) (good-products F V Q p)
-good-apply F V Q whole p word.Let xs = good-wrong F V Q p xs
-good-apply F V Q whole p word.Exists xs = good-wrong F V Q p xs
-good-apply F V Q whole p word.Forall xs = good-wrong F V Q p xs
-good-apply F V Q whole p word.Annotated xs = good-wrong F V Q p xs
-good-apply F V Q whole p word.LeftOut xs = good-wrong F V Q p xs
-good-apply F V Q whole p word.Named xs = good-wrong F V Q p xs
+good-apply F V Q whole p symbol.Minus (a ∷ b ∷ rest) = good-of-integers F V Q a (b ∷ rest) (Theory.differences p) (good-differences F V Q p)
+good-apply F V Q whole p symbol.Times [] = good-wrong F V Q p []
+good-apply F V Q whole p symbol.Times (a ∷ rest) = good-of-integers F V Q a rest (Theory.products p) (good-products F V Q p)
 
 pub good-divides : (F : Nodes) (V Q : ℕ → Type 0) → IsWhole F → (p : Position) (m : ℕ) (xs : List Argument) → Good F Q (ArgumentsIn V F xs) (MeaningIn V F) (Theory.divides p m xs)
 good-divides F V Q whole p m [] = good-wrong F V Q p []

@@ -277,17 +277,7 @@ good-applied F V Q whole env term good p q name word.Forall items = good-unless 
 good-applied F V Q whole env term good p q name word.Annotated items = good-unless F Q (EnvIn V F env) (MeaningIn V F) (Forms.annotation_fault p items) (Terms.annotated (term env) p items) (good-annotated F V Q env term good p items)
 good-applied F V Q whole env term good p q name word.LeftOut items = good-refuse F Q (EnvIn V F env) (MeaningIn V F) Unsupported q
 good-applied F V Q whole env term good p q name word.Named items = good-named F V Q whole env term good p q name items
-good-applied F V Q whole env term good p q name word.Not items = good-with-arguments F V Q env term good items (Theory.apply p word.Not) (good-apply F V Q whole p word.Not)
-good-applied F V Q whole env term good p q name word.And items = good-with-arguments F V Q env term good items (Theory.apply p word.And) (good-apply F V Q whole p word.And)
-good-applied F V Q whole env term good p q name word.Or items = good-with-arguments F V Q env term good items (Theory.apply p word.Or) (good-apply F V Q whole p word.Or)
-good-applied F V Q whole env term good p q name word.Xor items = good-with-arguments F V Q env term good items (Theory.apply p word.Xor) (good-apply F V Q whole p word.Xor)
-good-applied F V Q whole env term good p q name word.Implies items = good-with-arguments F V Q env term good items (Theory.apply p word.Implies) (good-apply F V Q whole p word.Implies)
-good-applied F V Q whole env term good p q name (word.Compare r) items = good-with-arguments F V Q env term good items (Theory.apply p (word.Compare r)) (good-apply F V Q whole p (word.Compare r))
-good-applied F V Q whole env term good p q name word.Distinct items = good-with-arguments F V Q env term good items (Theory.apply p word.Distinct) (good-apply F V Q whole p word.Distinct)
-good-applied F V Q whole env term good p q name word.Ite items = good-with-arguments F V Q env term good items (Theory.apply p word.Ite) (good-apply F V Q whole p word.Ite)
-good-applied F V Q whole env term good p q name word.Plus items = good-with-arguments F V Q env term good items (Theory.apply p word.Plus) (good-apply F V Q whole p word.Plus)
-good-applied F V Q whole env term good p q name word.Minus items = good-with-arguments F V Q env term good items (Theory.apply p word.Minus) (good-apply F V Q whole p word.Minus)
-good-applied F V Q whole env term good p q name word.Times items = good-with-arguments F V Q env term good items (Theory.apply p word.Times) (good-apply F V Q whole p word.Times)
+good-applied F V Q whole env term good p q name (word.Apply operator) items = good-with-arguments F V Q env term good items (Theory.apply p operator) (good-apply F V Q whole p operator)
 
 good-modulus-by : (F : Nodes) (Q C : ℕ → Type 0) (q r : Position) (digits : Option (List ℕ)) → Good F Q C (λ k n. ⊤) (Terms.modulus_by q r digits)
 good-modulus-by F Q C q r None = good-refuse F Q C (λ k n. ⊤) Syntax q

@@ -116,7 +116,7 @@ applied term env p q name word.Forall items = unless_faulty (quantifier_fault p 
 applied term env p q name word.Annotated items = unless_faulty (annotation_fault p items) (annotated (term env) p items)
 applied term env p q name word.LeftOut items = refuse Unsupported q
 applied term env p q name word.Named items = head_use q (look_up env name) >>= λ d. each (argument (term env)) items >>= λ xs. call p d xs
-applied term env p q name head items = each (argument (term env)) items >>= λ xs. apply p head xs
+applied term env p q name (word.Apply operator) items = each (argument (term env)) items >>= λ xs. apply p operator xs
 
 -- the modulus of a head (_ divisible N) at q, N at r
 abbrev pub modulus_by : Position → Position → Option (List ℕ) → Elab ℕ

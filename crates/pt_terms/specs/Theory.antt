@@ -17,8 +17,8 @@ use Rattle.pt_terms.specs.declared.meaning.Meaning.TheVariants.{Int, Bool as Tru
 use Rattle.pt_syntax.specs.declared.kinds.ReadKind.TheVariants.{Sort, Nonlinear, Coefficient, Unsupported}
 use Rattle.pt_grammar.specs.declared.words.Relation.{Relation}
 use Rattle.pt_grammar.specs.declared.words.Relation.TheVariants as comparison
-use Rattle.pt_grammar.specs.declared.words.Head.{Head}
-use Rattle.pt_grammar.specs.declared.words.Head.TheVariants as word
+use Rattle.pt_grammar.specs.declared.words.Operator.{Operator}
+use Rattle.pt_grammar.specs.declared.words.Operator.TheVariants as symbol
 
 -- ---- arguments, each with the place of its first byte
 
@@ -158,20 +158,20 @@ abbrev pub chosen : Position → ℕ → Meaning → Argument → Elab Meaning
 chosen p c (Truth a) b = truth b >>= λ j. as_truth (choice p c a j)
 chosen p c (Int f) b = integer b >>= λ g. refuse Unsupported p
 
--- an application of a symbol of the theories, by its arguments; another number of them is refused
-abbrev pub apply : Position → Head → List Argument → Elab Meaning
-apply p word.Not (a ∷ []) = truth a >>= λ i. as_truth (make (node.Not i) p)
-apply p word.And (a ∷ rest) = truth a >>= λ i. each truth rest >>= λ js. as_truth (join node.And p i js)
-apply p word.Or (a ∷ rest) = truth a >>= λ i. each truth rest >>= λ js. as_truth (join node.Or p i js)
-apply p word.Xor (a ∷ rest) = truth a >>= λ i. each truth rest >>= λ js. as_truth (join node.Xor p i js)
-apply p word.Implies (a ∷ b ∷ rest) = truth a >>= λ i. each truth (b ∷ rest) >>= λ js. as_truth (implication p i js)
-apply p (word.Compare r) (a ∷ b ∷ rest) = as_truth (relation p r a.0 a.1 (b ∷ rest))
-apply p word.Distinct (a ∷ b ∷ rest) = as_truth (distinct p a.1 (b ∷ rest))
-apply p word.Ite (c ∷ a ∷ b ∷ []) = truth c >>= λ i. chosen p i a.1 b
-apply p word.Plus (a ∷ rest) = integer a >>= λ f. each integer rest >>= λ gs. as_form (sums p f gs)
-apply p word.Minus (a ∷ []) = integer a >>= λ f. as_form (form (form_scale (negsuc 0) f) p)
-apply p word.Minus (a ∷ b ∷ rest) = integer a >>= λ f. each integer (b ∷ rest) >>= λ gs. as_form (differences p f gs)
-apply p word.Times (a ∷ rest) = integer a >>= λ f. each integer rest >>= λ gs. as_form (products p f gs)
+-- an application of an operator, by its arguments; another number of them is refused
+abbrev pub apply : Position → Operator → List Argument → Elab Meaning
+apply p symbol.Not (a ∷ []) = truth a >>= λ i. as_truth (make (node.Not i) p)
+apply p symbol.And (a ∷ rest) = truth a >>= λ i. each truth rest >>= λ js. as_truth (join node.And p i js)
+apply p symbol.Or (a ∷ rest) = truth a >>= λ i. each truth rest >>= λ js. as_truth (join node.Or p i js)
+apply p symbol.Xor (a ∷ rest) = truth a >>= λ i. each truth rest >>= λ js. as_truth (join node.Xor p i js)
+apply p symbol.Implies (a ∷ b ∷ rest) = truth a >>= λ i. each truth (b ∷ rest) >>= λ js. as_truth (implication p i js)
+apply p (symbol.Compare r) (a ∷ b ∷ rest) = as_truth (relation p r a.0 a.1 (b ∷ rest))
+apply p symbol.Distinct (a ∷ b ∷ rest) = as_truth (distinct p a.1 (b ∷ rest))
+apply p symbol.Ite (c ∷ a ∷ b ∷ []) = truth c >>= λ i. chosen p i a.1 b
+apply p symbol.Plus (a ∷ rest) = integer a >>= λ f. each integer rest >>= λ gs. as_form (sums p f gs)
+apply p symbol.Minus (a ∷ []) = integer a >>= λ f. as_form (form (form_scale (negsuc 0) f) p)
+apply p symbol.Minus (a ∷ b ∷ rest) = integer a >>= λ f. each integer (b ∷ rest) >>= λ gs. as_form (differences p f gs)
+apply p symbol.Times (a ∷ rest) = integer a >>= λ f. each integer rest >>= λ gs. as_form (products p f gs)
 apply p _ _ = refuse Sort p
 
 abbrev pub divides : Position → ℕ → List Argument → Elab Meaning

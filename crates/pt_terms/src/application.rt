@@ -5,9 +5,9 @@ ghost use Rattle.std.specs.Int.{int_rem_euclid};
 use crate::arithmetic::{Argument, copy_of_form};
 use crate::elaborator::Elaborator;
 use crate::meaning::Meaning;
-use crate::refusals::{no_memory, refused};
+use crate::refusals::refused;
 use pt_formula::{Form, Kind, Op, Position};
-use pt_grammar::words::{Head, Relation};
+use pt_grammar::words::{Operator, Relation};
 use pt_syntax::{ReadKind, ReadRefusal};
 use std::alloc::Global;
 
@@ -24,7 +24,7 @@ impl Elaborator {
     ghost use Rattle.std.specs.Prelude.{◌≡◌, ◌<◌, ◌^◌, ◌∷◌, length, map, IfOk, All};
     ghost use Rattle.pt_formula.specs.Formulas.{op_node};
     ghost use Rattle.pt_terms.specs.Theory.{Argument, apply, divides, chosen, relation, distinct, as_truth, as_form};
-    ghost use Rattle.pt_grammar.specs.declared.words.Head.TheVariants as word;
+    ghost use Rattle.pt_grammar.specs.declared.words.Operator.TheVariants as symbol;
     ghost use Rattle.pt_terms.specs.Chains.{joined};
     ghost use Rattle.pt_terms.specs.Elaboration.{give};
     ghost use Rattle.pt_terms.specs.Gives.{Gives, Grows};
@@ -37,7 +37,7 @@ impl Elaborator {
         arguments: &[Argument],
     ) -> Result<Meaning, ReadRefusal>
         requires { All (λ (a : Argument). IsMeaningIn self.old a.1) arguments.now }
-        ensures gives { Gives (λ m. m) result self.old self.new (apply at word.Not arguments.now) }
+        ensures gives { Gives (λ m. m) result self.old self.new (apply at symbol.Not arguments.now) }
         ensures range { IfOk result (IsMeaningIn self.new) }
         ensures grows { Grows self.old self.new }
     {
@@ -81,7 +81,7 @@ impl Elaborator {
         arguments: &[Argument],
     ) -> Result<Meaning, ReadRefusal>
         requires { All (λ (a : Argument). IsMeaningIn self.old a.1) arguments.now }
-        ensures gives { Gives (λ m. m) result self.old self.new (apply at word.Implies arguments.now) }
+        ensures gives { Gives (λ m. m) result self.old self.new (apply at symbol.Implies arguments.now) }
         ensures range { IfOk result (IsMeaningIn self.new) }
         ensures grows { Grows self.old self.new }
     {
@@ -133,7 +133,7 @@ impl Elaborator {
         arguments: &[Argument],
     ) -> Result<Meaning, ReadRefusal>
         requires { All (λ (a : Argument). IsMeaningIn self.old a.1) arguments.now }
-        ensures gives { Gives (λ m. m) result self.old self.new (apply at (word.Compare how) arguments.now) }
+        ensures gives { Gives (λ m. m) result self.old self.new (apply at (symbol.Compare how) arguments.now) }
         ensures range { IfOk result (IsMeaningIn self.new) }
         ensures grows { Grows self.old self.new }
     {
@@ -153,7 +153,7 @@ impl Elaborator {
         arguments: &[Argument],
     ) -> Result<Meaning, ReadRefusal>
         requires { All (λ (a : Argument). IsMeaningIn self.old a.1) arguments.now }
-        ensures gives { Gives (λ m. m) result self.old self.new (apply at word.Distinct arguments.now) }
+        ensures gives { Gives (λ m. m) result self.old self.new (apply at symbol.Distinct arguments.now) }
         ensures range { IfOk result (IsMeaningIn self.new) }
         ensures grows { Grows self.old self.new }
     {
@@ -228,7 +228,7 @@ impl Elaborator {
         arguments: &[Argument],
     ) -> Result<Meaning, ReadRefusal>
         requires { All (λ (a : Argument). IsMeaningIn self.old a.1) arguments.now }
-        ensures gives { Gives (λ m. m) result self.old self.new (apply at word.Ite arguments.now) }
+        ensures gives { Gives (λ m. m) result self.old self.new (apply at symbol.Ite arguments.now) }
         ensures range { IfOk result (IsMeaningIn self.new) }
         ensures grows { Grows self.old self.new }
     {
@@ -246,10 +246,7 @@ impl Elaborator {
         ensures gives { Gives (λ g. g) result self.now self.now (give f.now) }
         ensures range { IfOk result (IsFormBelow self.now.given) }
     {
-        match copy_of_form(alloc, f) {
-            Ok(g) => Ok(g),
-            Err(_) => Err(no_memory()),
-        }
+        Ok(copy_of_form(alloc, f)?)
     }
 
     fn apply_sum(
@@ -259,7 +256,7 @@ impl Elaborator {
         arguments: &[Argument],
     ) -> Result<Meaning, ReadRefusal>
         requires { All (λ (a : Argument). IsMeaningIn self.old a.1) arguments.now }
-        ensures gives { Gives (λ m. m) result self.old self.new (apply at word.Plus arguments.now) }
+        ensures gives { Gives (λ m. m) result self.old self.new (apply at symbol.Plus arguments.now) }
         ensures range { IfOk result (IsMeaningIn self.new) }
         ensures grows { Grows self.old self.new }
     {
@@ -282,7 +279,7 @@ impl Elaborator {
         arguments: &[Argument],
     ) -> Result<Meaning, ReadRefusal>
         requires { All (λ (a : Argument). IsMeaningIn self.old a.1) arguments.now }
-        ensures gives { Gives (λ m. m) result self.old self.new (apply at word.Minus arguments.now) }
+        ensures gives { Gives (λ m. m) result self.old self.new (apply at symbol.Minus arguments.now) }
         ensures range { IfOk result (IsMeaningIn self.new) }
         ensures grows { Grows self.old self.new }
     {
@@ -310,7 +307,7 @@ impl Elaborator {
         arguments: &[Argument],
     ) -> Result<Meaning, ReadRefusal>
         requires { All (λ (a : Argument). IsMeaningIn self.old a.1) arguments.now }
-        ensures gives { Gives (λ m. m) result self.old self.new (apply at word.Times arguments.now) }
+        ensures gives { Gives (λ m. m) result self.old self.new (apply at symbol.Times arguments.now) }
         ensures range { IfOk result (IsMeaningIn self.new) }
         ensures grows { Grows self.old self.new }
     {
@@ -326,37 +323,31 @@ impl Elaborator {
         }
     }
 
-    /// An application of a symbol of the theories; another number of arguments is refused.
+    /// An application of an operator; another number of arguments is refused.
     pub(crate) fn apply(
         &mut self,
         alloc: Global,
         at: Position,
-        head: Head,
+        operator: Operator,
         arguments: &[Argument],
     ) -> Result<Meaning, ReadRefusal>
         requires { All (λ (a : Argument). IsMeaningIn self.old a.1) arguments.now }
-        ensures gives { Gives (λ m. m) result self.old self.new (apply at head arguments.now) }
+        ensures gives { Gives (λ m. m) result self.old self.new (apply at operator arguments.now) }
         ensures range { IfOk result (IsMeaningIn self.new) }
         ensures grows { Grows self.old self.new }
     {
-        match head {
-            Head::Not => self.apply_not(alloc, at, arguments),
-            Head::And => self.apply_join(alloc, Op::And, at, arguments),
-            Head::Or => self.apply_join(alloc, Op::Or, at, arguments),
-            Head::Xor => self.apply_join(alloc, Op::Xor, at, arguments),
-            Head::Implies => self.apply_implies(alloc, at, arguments),
-            Head::Compare(relation) => self.apply_relation(alloc, at, relation, arguments),
-            Head::Distinct => self.apply_distinct(alloc, at, arguments),
-            Head::Ite => self.apply_choice(alloc, at, arguments),
-            Head::Plus => self.apply_sum(alloc, at, arguments),
-            Head::Minus => self.apply_difference(alloc, at, arguments),
-            Head::Times => self.apply_product(alloc, at, arguments),
-            Head::Let
-            | Head::Exists
-            | Head::Forall
-            | Head::Annotated
-            | Head::LeftOut
-            | Head::Named => Err(refused(ReadKind::Sort, at)),
+        match operator {
+            Operator::Not => self.apply_not(alloc, at, arguments),
+            Operator::And => self.apply_join(alloc, Op::And, at, arguments),
+            Operator::Or => self.apply_join(alloc, Op::Or, at, arguments),
+            Operator::Xor => self.apply_join(alloc, Op::Xor, at, arguments),
+            Operator::Implies => self.apply_implies(alloc, at, arguments),
+            Operator::Compare(relation) => self.apply_relation(alloc, at, relation, arguments),
+            Operator::Distinct => self.apply_distinct(alloc, at, arguments),
+            Operator::Ite => self.apply_choice(alloc, at, arguments),
+            Operator::Plus => self.apply_sum(alloc, at, arguments),
+            Operator::Minus => self.apply_difference(alloc, at, arguments),
+            Operator::Times => self.apply_product(alloc, at, arguments),
         }
     }
 

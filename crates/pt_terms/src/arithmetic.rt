@@ -4,7 +4,7 @@ ghost use Rattle.pt_terms.specs.Elaboration.{constant_form, variable_form};
 
 use crate::elaborator::Elaborator;
 use crate::meaning::Meaning;
-use crate::refusals::{form_refusal, no_memory, refused};
+use crate::refusals::{form_refusal, refused};
 use pt_digits::NoMemory;
 use pt_formula::form::{difference, scale, sum};
 use pt_formula::{Form, Position, Terms};
@@ -94,9 +94,7 @@ impl Elaborator {
         let mut forms = Vec::new(alloc);
         for a in arguments {
             let f = self.integer(a)?;
-            if forms.push(f).is_err() {
-                return Err(no_memory());
-            }
+            forms.push(f)?;
         }
         Ok(forms)
     }
@@ -138,9 +136,7 @@ impl Elaborator {
         let mut nodes = Vec::new(alloc);
         for a in arguments {
             let i = self.node_of(a)?;
-            if nodes.push(i).is_err() {
-                return Err(no_memory());
-            }
+            nodes.push(i)?;
         }
         Ok(nodes)
     }

@@ -10,7 +10,7 @@ use crate::bindings::Bindings;
 use crate::elaborator::Elaborator;
 use crate::environment::Environment;
 use crate::meaning::Meaning;
-use crate::refusals::{no_memory, refused};
+use crate::refusals::refused;
 use pt_grammar::exprs::{is_symbol, items, name_in, place};
 use pt_grammar::words::is_reserved_word;
 use pt_syntax::{Position, ReadKind, ReadRefusal, SExpr};
@@ -93,9 +93,7 @@ impl Elaborator {
         let mut found = Vec::new(alloc);
         for e in es {
             let x = self.variable(e)?;
-            if found.push(x).is_err() {
-                return Err(no_memory());
-            }
+            found.push(x)?;
         }
         Ok(found)
     }
@@ -161,13 +159,8 @@ pub(crate) fn bind_variables(
     ensures err { IfErr result (λ e. e ≡ no_memory_refusal) }
 {
     for x in variables {
-        let f = match form_of_variable(alloc, x.1) {
-            Ok(f) => f,
-            Err(_) => return Err(no_memory()),
-        };
-        if env.bind(alloc, x.0, Meaning::Int(f)).is_err() {
-            return Err(no_memory());
-        }
+        let f = form_of_variable(alloc, x.1)?;
+        env.bind(alloc, x.0, Meaning::Int(f))?;
     }
     Ok(())
 }

@@ -5,7 +5,6 @@ ghost use Rattle.pt_terms.specs.Theory.{new_constant};
 
 use crate::arithmetic::form_of_number;
 use crate::elaborator::Elaborator;
-use crate::refusals::no_memory;
 use pt_formula::{Form, Kind, Node, Op, Position};
 use pt_syntax::ReadRefusal;
 use std::alloc::Global;
@@ -172,14 +171,8 @@ impl Elaborator {
         let mut numbers = Vec::new(alloc);
         for i in 0..count {
             let mark = marks[i as usize];
-            match self.copy_next(alloc, at, parameters, forms, numbers.as_slice(), mark, i) {
-                Ok(j) => {
-                    if numbers.push(j).is_err() {
-                        return Err(no_memory());
-                    }
-                }
-                Err(refusal) => return Err(refusal),
-            }
+            let j = self.copy_next(alloc, at, parameters, forms, numbers.as_slice(), mark, i)?;
+            numbers.push(j)?;
         }
         Ok(numbers)
     }
@@ -199,7 +192,7 @@ impl Elaborator {
         ensures range { IfOk result (λ i. i < length self.new.formula) }
         ensures grows { Grows self.old self.new }
     {
-        let _whole = self.formula().len();
+        self.formula().is_formula();
         let marks = self.marks(alloc, body)?;
         match self.copy_nodes(alloc, at, parameters, forms, marks.as_slice(), body + 1) {
             Ok(numbers) => Ok(self.new_number(numbers.as_slice(), body)),

@@ -8,7 +8,7 @@ ghost use Rattle.pt_formula.specs.Formulas.{node_tree, tree_of, IsFormula};
 ghost use Rattle.pt_terms.specs.Sound.{AreBelow};
 ghost use Rattle.pt_terms.specs.Below.{BindsBelow};
 
-use crate::refusals::{builder_refusal, no_memory};
+use crate::refusals::builder_refusal;
 use pt_digits::NoMemory;
 use pt_formula::laws::{
     appended_nodes_change_no_earlier_one, trees_are_made_of_those_of_the_children,
@@ -90,9 +90,9 @@ impl Elaborator {
         ensures grows { Grows self.old self.new }
     {
         appended_nodes_keep_variables_below();
-        let _before = self.formula.len();
+        self.formula.is_formula();
         let made = self.formula.truth(alloc, value, at);
-        let _after = self.formula.len();
+        self.formula.is_formula();
         match made {
             Ok(id) => Ok(id),
             Err(fault) => Err(builder_refusal(fault, at)),
@@ -117,9 +117,9 @@ impl Elaborator {
         ensures grows { Grows self.old self.new }
     {
         appended_nodes_keep_variables_below();
-        let _before = self.formula.len();
+        self.formula.is_formula();
         let made = self.formula.atom(alloc, kind, terms, constant, at);
-        let _after = self.formula.len();
+        self.formula.is_formula();
         match made {
             Ok(id) => Ok(id),
             Err(fault) => Err(builder_refusal(fault, at)),
@@ -134,9 +134,9 @@ impl Elaborator {
         ensures grows { Grows self.old self.new }
     {
         appended_nodes_keep_variables_below();
-        let _before = self.formula.len();
+        self.formula.is_formula();
         let made = self.formula.not(alloc, a, at);
-        let _after = self.formula.len();
+        self.formula.is_formula();
         match made {
             Ok(id) => Ok(id),
             Err(fault) => Err(builder_refusal(fault, at)),
@@ -159,9 +159,9 @@ impl Elaborator {
         ensures grows { Grows self.old self.new }
     {
         appended_nodes_keep_variables_below();
-        let _before = self.formula.len();
+        self.formula.is_formula();
         let made = self.formula.binary(alloc, op, a, b, at);
-        let _after = self.formula.len();
+        self.formula.is_formula();
         match made {
             Ok(id) => Ok(id),
             Err(fault) => Err(builder_refusal(fault, at)),
@@ -183,9 +183,9 @@ impl Elaborator {
         ensures grows { Grows self.old self.new }
     {
         appended_nodes_keep_variables_below();
-        let _before = self.formula.len();
+        self.formula.is_formula();
         let made = self.formula.exists(alloc, v, a, at);
-        let _after = self.formula.len();
+        self.formula.is_formula();
         match made {
             Ok(id) => Ok(id),
             Err(fault) => Err(builder_refusal(fault, at)),
@@ -220,8 +220,7 @@ impl Elaborator {
         ensures range { IsNodeBelow self.now.given i result.now }
     {
         trees_are_made_of_those_of_the_children();
-        let _inside = &self.formula;
-        let _whole = self.formula.len();
+        self.formula.is_formula();
         self.formula.node(i)
     }
 }

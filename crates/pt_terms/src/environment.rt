@@ -13,7 +13,7 @@ ghost use Rattle.pt_terms.specs.Sound.{IsUseIn};
 use crate::arithmetic::{copy_of_meaning, form_of_variable};
 use crate::bindings::Bindings;
 use crate::meaning::Meaning;
-use crate::refusals::{no_memory, refused};
+use crate::refusals::refused;
 use crate::symbols::{Symbols, Use};
 use pt_digits::NoMemory;
 use pt_syntax::{Position, ReadKind, ReadRefusal};
@@ -97,7 +97,7 @@ impl<'s> Environment<'s> {
             None => Err(refused(ReadKind::Unknown, at)),
             Some(Use::Constant(_)) => Err(refused(ReadKind::Sort, at)),
             Some(Use::Definition(parameters, meaning)) => {
-                if parameters.is_empty() {
+                if parameters.as_slice().is_empty() {
                     Err(refused(ReadKind::Sort, at))
                 } else {
                     Ok((parameters.as_slice(), meaning))
@@ -128,10 +128,7 @@ fn copy_of(alloc: Global, meaning: &Meaning) -> Result<Meaning, ReadRefusal>
     ensures says { Says (λ m. m) result (give meaning.now) }
     ensures same { IfOk result (λ m. m ≡ meaning.now) }
 {
-    match copy_of_meaning(alloc, meaning) {
-        Ok(copy) => Ok(copy),
-        Err(_) => Err(no_memory()),
-    }
+    Ok(copy_of_meaning(alloc, meaning)?)
 }
 
 /// What a live name stands for as a term of its own.
@@ -141,12 +138,9 @@ fn live_use(alloc: Global, found: Option<&Use>, at: Position) -> Result<Meaning,
 {
     match found {
         None => Err(refused(ReadKind::Unknown, at)),
-        Some(Use::Constant(v)) => match form_of_variable(alloc, *v) {
-            Ok(f) => Ok(Meaning::Int(f)),
-            Err(_) => Err(no_memory()),
-        },
+        Some(Use::Constant(v)) => Ok(Meaning::Int(form_of_variable(alloc, *v)?)),
         Some(Use::Definition(parameters, meaning)) => {
-            if parameters.is_empty() {
+            if parameters.as_slice().is_empty() {
                 copy_of(alloc, meaning)
             } else {
                 Err(refused(ReadKind::Sort, at))

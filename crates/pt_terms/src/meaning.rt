@@ -1,10 +1,10 @@
+use crate::bytes::Bytes;
 use pt_formula::Form;
-use sqlite_items::Items;
 
 /// A declared constant.
 #[derive(Drop)]
 pub struct Constant {
-    pub name: Items<u8>,
+    pub name: Bytes,
     pub variable: u32,
 }
 

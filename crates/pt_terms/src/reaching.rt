@@ -6,7 +6,6 @@ ghost use Rattle.pt_syntax.specs.Rest.{no_memory};
 ghost use Rattle.pt_terms.specs.Copies.{marked_all};
 
 use crate::elaborator::Elaborator;
-use crate::refusals::no_memory;
 use pt_formula::Node;
 use pt_syntax::ReadRefusal;
 use std::alloc::Global;
@@ -31,10 +30,7 @@ fn no_marks(alloc: Global, count: usize) -> Result<Vec<bool>, ReadRefusal>
     ensures ok { IfOk result (λ v. v.items ≡ replicate count false) }
     ensures err { IfErr result (λ e. e ≡ no_memory) }
 {
-    match vec![in alloc; false; count] {
-        Ok(marks) => Ok(marks),
-        Err(_) => Err(no_memory()),
-    }
+    Ok(vec![in alloc; false; count]?)
 }
 
 impl Elaborator {
@@ -48,7 +44,7 @@ impl Elaborator {
         ensures ok { IfOk result (λ v. v.items ≡ marks_of self.now.formula body) }
         ensures err { IfErr result (λ e. e ≡ no_memory) }
     {
-        let _whole = self.formula().len();
+        self.formula().is_formula();
         let mut marks = no_marks(alloc, body as usize + 1)?;
         marks[body as usize] = true;
         for k in 0..body + 1 {

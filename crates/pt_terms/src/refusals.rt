@@ -1,17 +1,9 @@
 // Refusals at a place.
 ghost use Rattle.std.specs.Prelude.{◌≡◌};
-ghost use Rattle.pt_syntax.specs.Rest.{no_memory as no_memory_refusal};
 ghost use Rattle.pt_terms.specs.Gives.{IsRefusalOf, IsFormRefusal};
 
 use pt_formula::{FormFault, FormulaFault, Position};
-use pt_syntax::{ReadKind, ReadRefusal};
-
-/// Want of memory, which has no place of its own.
-pub fn no_memory() -> ReadRefusal
-    ensures { result ≡ no_memory_refusal }
-{
-    refused(ReadKind::NoMemory, Position { line: 1, column: 1 })
-}
+use pt_syntax::{ReadKind, ReadRefusal, no_memory};
 
 pub fn refused(kind: ReadKind, position: Position) -> ReadRefusal
     ensures { result ≡ record { kind = kind; position = position } }

@@ -1,7 +1,6 @@
 // Forms in the places of parameters.
 use crate::arithmetic::form_of_variable;
 use crate::elaborator::Elaborator;
-use crate::refusals::no_memory;
 use pt_formula::{Form, Position};
 use pt_syntax::ReadRefusal;
 use std::alloc::Global;
@@ -60,9 +59,7 @@ impl Elaborator {
                 self.sum(alloc, so_far, &g, at)
             }
             None => {
-                let Ok(f) = form_of_variable(alloc, v) else {
-                    return Err(no_memory());
-                };
+                let f = form_of_variable(alloc, v)?;
                 let g = self.scale(alloc, by, &f, at)?;
                 self.sum(alloc, so_far, &g, at)
             }

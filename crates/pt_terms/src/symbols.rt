@@ -4,9 +4,9 @@ ghost use Rattle.std.specs.List.{AllByRecursion};
 ghost use Rattle.pt_terms.specs.Symbols.{shown_use, constant_count};
 
 use crate::meaning::Meaning;
+use crate::parameters::Parameters;
 use indexmap::IndexMap;
 use pt_digits::NoMemory;
-use sqlite_items::Items;
 use std::alloc::Global;
 use std::marker::Model;
 
@@ -14,7 +14,7 @@ use std::marker::Model;
 #[derive(Drop)]
 pub enum Use {
     Constant(u32),
-    Definition(Items<u32>, Meaning),
+    Definition(Parameters, Meaning),
 }
 
 /// What a live name stands for, and the level that made it.
@@ -91,10 +91,8 @@ impl Symbols {
         ensures ok { OnOk result (self.new ≡ self.old ++ record { name = name.items; stands_for = shown_use stands_for; level = level } ∷ []) }
         ensures err { OnErr result (self.new ≡ self.old) }
     {
-        match self.entries.insert(name, Live { stands_for, level }) {
-            Ok(_) => Ok(()),
-            Err(_) => Err(NoMemory),
-        }
+        self.entries.insert(name, Live { stands_for, level })?;
+        Ok(())
     }
 
     /// Takes away the names of higher levels, in constant time for each.

@@ -5,7 +5,7 @@ use crate::bindings::Bindings;
 use crate::elaborator::Elaborator;
 use crate::environment::Environment;
 use crate::meaning::Meaning;
-use crate::refusals::{no_memory, refused};
+use crate::refusals::refused;
 use pt_grammar::exprs::{items, items_in, place};
 use pt_grammar::forms::{fault_of_annotation, fault_of_let, fault_of_quantifier};
 use pt_grammar::words::{Head, head_of};
@@ -139,9 +139,9 @@ impl Elaborator {
             Head::Annotated => self.annotated(alloc, depth, env, at, rest),
             Head::LeftOut => Err(refused(ReadKind::Unsupported, place)),
             Head::Named => self.named(alloc, depth, env, at, place, name, rest),
-            theory => {
+            Head::Apply(operator) => {
                 let arguments = self.arguments(alloc, depth, env, rest)?;
-                self.apply(alloc, at, theory, arguments.as_slice())
+                self.apply(alloc, at, operator, arguments.as_slice())
             }
         }
     }
@@ -165,10 +165,7 @@ impl Elaborator {
         let mut found = Vec::new(alloc);
         for e in es {
             let a = self.argument(alloc, depth, env, e)?;
-            match found.push(a) {
-                Ok(()) => {}
-                Err(_) => return Err(no_memory()),
-            }
+            found.push(a)?;
         }
         Ok(found)
     }
@@ -259,10 +256,8 @@ impl Elaborator {
         ensures err { IfErr result (λ e. e ≡ no_memory_refusal) }
     {
         let outer = env.len();
-        match env.bind_all(alloc, names) {
-            Ok(()) => Ok(outer),
-            Err(_) => Err(no_memory()),
-        }
+        env.bind_all(alloc, names)?;
+        Ok(outer)
     }
 
     /// Binds the variables; how many names were bound before.
@@ -355,10 +350,7 @@ impl Elaborator {
         let mut found = Bindings::new(alloc);
         for e in es {
             let (name, m) = self.binding(alloc, depth, env, &found, e)?;
-            match found.push(alloc, name, m) {
-                Ok(()) => {}
-                Err(_) => return Err(no_memory()),
-            }
+            found.push(alloc, name, m)?;
         }
         Ok(found)
     }

@@ -4,7 +4,7 @@ use crate::bindings::Bindings;
 use crate::elaborator::Elaborator;
 use crate::meaning::Meaning;
 use crate::numerals::number_at;
-use crate::refusals::{no_memory, refused};
+use crate::refusals::refused;
 use crate::symbols::{Symbols, Use};
 use pt_formula::{Op, Position};
 use pt_syntax::ReadKind;

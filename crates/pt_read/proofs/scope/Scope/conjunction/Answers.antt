@@ -20,7 +20,7 @@ returns-in-Some-clause-value c = rw (← c.self.view_is) (sym (last c.self.insid
 
 pub returns-in-Some-clause-node : goal.returns-in-Some-clause-node
 returns-in-Some-clause-node c = rw (← c.self.view_is) (
-    let whole : IsFormula c.self.inside.work.formula = rw c.formula.ensures.value at c.len-formula.ensures.formula in
+    let whole : IsFormula c.self.inside.work.formula = rw c.formula.ensures.value at c.is_formula.ensures in
     let lt = scope-conjunction (shown c.self.inside) c.self.invariant.sound whole in
     let e = last c.self.inside.assertions.items c.in-Some.last.now (rw (← c.deref.ensures.value) (sym c.in-Some.ensures.value)) in
     omega (arith, lt, e))

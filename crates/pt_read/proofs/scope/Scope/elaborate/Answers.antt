@@ -12,8 +12,8 @@ elaborate-command-requires-clause-names c = scope-names (shown c.self.inside) c.
 pub elaborate-command-requires-clause-last : goal.elaborate-command-requires-clause-last
 elaborate-command-requires-clause-last c = rw (c.joined-joined.ensures, ← c.self.view_is) (scope-joined (shown c.self.inside) c.self.invariant.sound)
 
-after : (c : goal.After-len-after) → IsFormula c.elaborate-command.new.work.formula
-after c = rw c.formula-2.ensures.value at c.len-after.ensures.formula
+after : (c : goal.After-is_formula-2) → IsFormula c.elaborate-command.new.work.formula
+after c = rw c.formula-2.ensures.value at c.is_formula-2.ensures
 
 pub invariant_of-self : goal.invariant_of-self
 invariant_of-self c = record {

@@ -6,4 +6,4 @@ pub invariant_of-self : goal.invariant_of-self
 invariant_of-self c =
     let a : c.args.a < length c.self.inside.formula = rw (ap (λ w. length w.formula) c.self.view_is) c.requires.a in
     let v : c.args.v < c.self.inside.given = rw (ap (λ w. w.given) c.self.view_is) c.requires.v in
-    made_exists_below c.appended_nodes_keep_variables_below.ensures c.args.v c.args.a c.args.at _ _ _ c.self.inside.given c.len-before.ensures.formula c.len-after.ensures.formula c.self.invariant a v c.exists-made.ensures
+    made_exists_below c.appended_nodes_keep_variables_below.ensures c.args.v c.args.a c.args.at _ _ _ c.self.inside.given c.is_formula.ensures c.is_formula-2.ensures c.self.invariant a v c.exists-made.ensures

@@ -8,13 +8,13 @@ use Rattle.pt_terms.proofs.elaborator.Elaborator.marks.Goals.{then-index, else-i
 
 pub loop-k-init : goal.loop-k-init
 loop-k-init c =
-    let whole : IsFormula c.args.self.now.formula = subst IsFormula c.formula.ensures.value c.len-whole.ensures.formula in
+    let whole : IsFormula c.args.self.now.formula = subst IsFormula c.formula.ensures.value c.is_formula.ensures in
     let none : c.in_ok-marks.marks.items ≡ replicate (c.args.body + 1) false = c.in_ok-marks.ensures.ok in
     record { marked = marked-first c.args.self.now.formula (earlier_of c.args.self.now.formula whole) c.args.body c.in_ok-marks.marks.items none }
 
 pub loop-k-preserved : goal.loop-k-preserved
 loop-k-preserved c =
-    let whole : IsFormula c.args.self.now.formula = subst IsFormula c.formula.ensures.value c.len-whole.ensures.formula in
+    let whole : IsFormula c.args.self.now.formula = subst IsFormula c.formula.ensures.value c.is_formula.ensures in
     let le : c.loop-k.k ≤ c.args.body = omega (arith, c.loop-k-test.true) in
     let size : length c.loop-k.marks.items ≡ c.args.body + 1 = c.loop-k.invariant.marked.size in
     let inside : c.args.body - c.loop-k.k < length c.loop-k.marks.items = omega (arith, size) in
@@ -32,5 +32,5 @@ loop-k-preserved c =
 
 pub returns-clause-ok : goal.returns-clause-ok
 returns-clause-ok c =
-    let whole : IsFormula c.args.self.now.formula = subst IsFormula c.formula.ensures.value c.len-whole.ensures.formula in
+    let whole : IsFormula c.args.self.now.formula = subst IsFormula c.formula.ensures.value c.is_formula.ensures in
     marked-end c.args.self.now.formula (earlier_of c.args.self.now.formula whole) c.args.body c.loop-k.k c.loop-k.marks.items (omega (arith, c.loop-k-test.false)) c.loop-k.invariant.marked
