@@ -84,10 +84,6 @@ module _ {text : List ℕ} {bound : ℕ} {home : Home} {start now : Option (List
   pub done_known : (left : Script) (new : State) → IsNext None commands s.scope left new → KnowAnswered home lists text bound
   done_known left new next = (u.turns, [], false, ended left new next, u.known)
 
-  -- for want of memory
-  pub cut_off : WroteFrontOfOutput text bound start now
-  cut_off = front_of_replies text bound u.turns s commands start now u.run u.wrote
-
   -- the next command cannot be read
   unreadable : (e : ReadRefusal) → IsRefusedWith commands s.scope e → IsRefused text bound u.turns (refusal_line e)
   unreadable e refused = inl (s, commands, e, u.run, u.going, refused, refl)

@@ -2,6 +2,7 @@ pub mod Numbers
 pub mod WholeText
 pub mod Streaming
 pub mod Stepping
+pub mod Limits
 pub mod Underway
 pub mod Endings
 pub mod Growing

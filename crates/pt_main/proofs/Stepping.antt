@@ -67,11 +67,6 @@ depth_kept c Done left s new h = absurd h
 depth_kept c (Stops e) left s new h = absurd h
 depth_kept c (Reads_list p items rest) left s new h = ap (λ (t : State). t.depth) h.3
 
-pub below_depth : (c : Command) (script left : Script) (s shown new : State) → IsNext (Some c) script s left new → shown ≡ s → (depth : ℕ) → depth ≡ shown.depth → depth < 2 ^ 127 → new.depth < 2 ^ 127
-below_depth c script left s shown new next is depth value low =
-    let kept = depth_kept c script left s new next in
-    omega (arith, kept, ap (λ (t : State). t.depth) is, value, low)
-
 -- how many commands are left
 abbrev pub commands_in : Script → ℕ
 commands_in Done = 0

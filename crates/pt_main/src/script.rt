@@ -15,6 +15,7 @@ use crate::status::Status;
 use pt_eval::Gate;
 use pt_handles::longer_lists_know;
 use pt_io::{ReadFault, Sink, Source, read_all, write_all};
+use pt_read::laws::{commands_push_few_levels, texts_give_out_few_numbers};
 use pt_read::{Command, ReadKind, ReadRefusal, Reader};
 use pt_script::{Reply, Session, SessionFault, write_fault, write_refusal, write_too_long};
 use pt_store::{Codes, Interner};
@@ -73,12 +74,6 @@ pub fn run<S: Source, K: Sink, G: Gate, I: Interner, R: Threads + Sync>(
 /// How many threads work on a command.
 const WORKERS: u32 = 1;
 
-/// The most variable numbers that a command is read with. A text of the greatest length gives fewer.
-const MAX_VARIABLES: u32 = 1 << 31;
-
-/// The number of levels below which a push is answered. A text of the greatest length pushes fewer.
-const MAX_DEPTH: u128 = 1 << 127;
-
 /// Answers the commands of a text that is not too long.
 fn answer<K: Sink, G: Gate, I: Interner, R: Threads + Sync>(
     rt: &R,
@@ -110,10 +105,9 @@ fn answer<K: Sink, G: Gate, I: Interner, R: Threads + Sync>(
     };
     let mut reader = Reader::new(text);
     longer_lists_know();
+    texts_give_out_few_numbers();
+    commands_push_few_levels();
     'commands: loop {
-        if session.scope().given() > MAX_VARIABLES || session.scope().depth() >= MAX_DEPTH {
-            return Status::NoMemory;
-        }
         match session.read_command(alloc, &mut reader) {
             Ok(None) => return Status::Done,
             Ok(Some(command)) => {

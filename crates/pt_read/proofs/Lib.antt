@@ -13,3 +13,4 @@ pub mod KeptLaws
 pub mod SoundLaws
 pub mod Elaborating
 pub mod ReadingLaws
+pub mod FewNumbers

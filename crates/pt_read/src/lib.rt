@@ -8,6 +8,7 @@ mod context;
 mod declarations;
 mod integers;
 mod item_parts;
+pub mod laws;
 mod numerals;
 mod predicates;
 mod reader;

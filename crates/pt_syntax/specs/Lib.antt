@@ -5,3 +5,4 @@ pub mod Within
 pub mod Rest
 pub mod Fronts
 pub mod Cursors
+pub mod Sizes

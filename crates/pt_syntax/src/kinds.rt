@@ -3,7 +3,7 @@ ghost use Rattle.pt_syntax.specs.Rest.{no_memory as no_memory_refusal};
 
 use pt_digits::NoMemory;
 use pt_formula::Position;
-use std::alloc::AllocError;
+use std::alloc::{AllocError, AllocFailed};
 
 /// Why a text is refused.
 #[derive(Clone, Copy, Debug, PartialEq, Eq)]
@@ -51,6 +51,14 @@ impl From<AllocError> for ReadRefusal {
     ghost from_gives = { λ _ e. e ≡ no_memory_refusal };
 
     fn from(_e: AllocError) -> ReadRefusal {
+        no_memory()
+    }
+}
+
+impl<T: Drop> From<AllocFailed<T>> for ReadRefusal {
+    ghost from_gives = { λ _ e. e ≡ no_memory_refusal };
+
+    fn from(_e: AllocFailed<T>) -> ReadRefusal {
         no_memory()
     }
 }

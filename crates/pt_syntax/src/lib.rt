@@ -4,6 +4,7 @@
 mod bytes;
 mod front;
 mod kinds;
+pub mod laws;
 mod nested;
 mod reader;
 mod sexpr;

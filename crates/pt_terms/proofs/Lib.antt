@@ -25,3 +25,5 @@ pub mod Substituting
 pub mod Nodes
 pub mod NodeCopies
 pub mod TermLaws
+pub mod Adding
+pub mod FewNumbers

@@ -14,7 +14,7 @@ use pt_formula::laws::{
     appended_nodes_change_no_earlier_one, trees_are_made_of_those_of_the_children,
 };
 use pt_formula::{Formula, Kind, Node, Op, Position};
-use pt_syntax::ReadRefusal;
+use pt_syntax::{ReadRefusal, no_memory};
 use std::alloc::Global;
 use std::marker::Model;
 

@@ -1,15 +1,21 @@
 //! Laws about terms: each holds for all values, and is cited by its contract.
 
+ghost use Rattle.std.specs.Prelude.{ℕ};
 ghost use Rattle.pt_formula.specs.Formulas.{IsFormula};
+ghost use Rattle.pt_syntax.specs.Sizes.{size_within};
+ghost use Rattle.pt_syntax.specs.declared.sexpr.SExpr.{SExpr as SExprValue};
 ghost use Rattle.pt_terms.specs.Elaboration.{Work};
 ghost use Rattle.pt_terms.specs.Names.{Env};
 ghost use Rattle.pt_terms.specs.Gives.{Grows};
 ghost use Rattle.pt_terms.specs.Sound.{IsEnvIn};
 ghost use Rattle.pt_terms.specs.Free.{Nodes, IsWhole, AreTermsOver};
+ghost use Rattle.pt_terms.specs.Numbers.{AddsAtMost, looks};
+ghost use Rattle.pt_terms.specs.Terms.{term_within};
 
 use pt_formula::laws::{
     appended_nodes_change_no_earlier_one, trees_are_made_of_those_of_the_children,
 };
+use pt_syntax::laws::a_deeper_look_finds_no_less;
 
 /// What a term stands for has no free variables but those of the names that it sees, and the nodes that it adds bind new variables alone,
 /// or those that earlier nodes bind.
@@ -25,3 +31,10 @@ pub fn terms_are_over_the_names_that_they_see()
 pub fn names_stay_in_range()
     ensures { (v w : Work) (env : Env) → Grows v w → IsEnvIn v env → IsEnvIn w env }
 {}
+
+/// A term gives out at most one variable number for each leaf and each list that stands in it.
+pub fn terms_give_out_few_numbers()
+    ensures { (depth : ℕ) (env : Env) (e : SExprValue) → AddsAtMost (size_within (looks depth) e) (term_within depth env e) }
+{
+    a_deeper_look_finds_no_less();
+}

@@ -7,7 +7,7 @@ use crate::numerals::number_at;
 use crate::refusals::refused;
 use crate::symbols::{Symbols, Use};
 use pt_formula::{Op, Position};
-use pt_syntax::ReadKind;
+use pt_syntax::{ReadKind, no_memory};
 use std::test::Fail;
 
 #[test]

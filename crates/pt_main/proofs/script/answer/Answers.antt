@@ -4,10 +4,11 @@ use Rattle.pt_sets.proofs.ListLaws.{Extends-refl, Extends-trans}
 use Rattle.pt_read.specs.Reader.{left}
 use Rattle.pt_script.specs.State.{Standing}
 use Rattle.pt_main.specs.Parts.{CommandTold}
-use Rattle.pt_main.proofs.Stepping.{may_refuse, below_depth, one_less}
+use Rattle.pt_main.proofs.Stepping.{may_refuse, one_less}
+use Rattle.pt_main.proofs.Limits.{low_first, low_next, few_numbers, few_levels}
 use Rattle.pt_main.proofs.Underway.{begins_at, within, goes_on}
 use Rattle.pt_main.proofs.Growing.{read}
-use Rattle.pt_main.proofs.Endings.{front_of_nothing, done, done_known, cut_off, refused, refused_known, ends_with, ends_known}
+use Rattle.pt_main.proofs.Endings.{front_of_nothing, done, done_known, refused, refused_known, ends_with, ends_known}
 use Rattle.pt_main.proofs.script.answer.Goals as goal
 
 pub returns-in_default-clause-answer : goal.returns-in_default-clause-answer
@@ -16,6 +17,7 @@ returns-in_default-clause-answer g c = front_of_nothing c.args.text.now c.args.b
 pub commands-init : goal.commands-init
 commands-init g c = record {
   underway = begins_at c.args.text.now c.args.bound g.I.Pass.Codes.home (g.K.Sink.written c.args.sink.now) (g.I.Pass.Codes.lists c.args.pass.now) (g.I.Pass.Codes.offered c.args.pass.now) c.in-Ok.session c.new-reader.result c.in-Ok.ensures c.new-reader.ensures c.requires.size;
+  low = low_first c.texts_give_out_few_numbers.ensures.whole c.args.text.now c.in-Ok.session c.new-reader.result c.in-Ok.ensures c.new-reader.ensures c.requires.size;
   counted = omega arith;
   extends = Extends-refl (g.I.Pass.Codes.lists c.args.pass.now);
   kept = c.requires.owned;
@@ -34,7 +36,7 @@ returns-in-Ok-None-clause-known g c =
 pub answer_command-told-requires-clause-depth : goal.answer_command-told-requires-clause-depth
 answer_command-told-requires-clause-depth g c κs within =
     let answer = rw c.in-Ok-Some.field-0-is at c.in-Ok-Some.ensures.answer in
-    below_depth c.in-Ok-Some.command (left c.commands.reader) (left c.read_command.new.reader) c.commands.session.scope c.scope-else-given-gt-MAX_VARIABLES.result.now c.read_command.new.self.scope answer c.scope-else-given-gt-MAX_VARIABLES.ensures c.depth.result c.depth.ensures c.if-depth-ge-MAX_DEPTH.false
+    few_levels c.in-Ok-Some.command (left c.commands.reader) (left c.read_command.new.reader) c.commands.session.scope c.read_command.new.self.scope answer c.commands.invariant.low
 
 pub returns-in-Some-clause-answer : goal.returns-in-Some-clause-answer
 returns-in-Some-clause-answer g c =
@@ -70,6 +72,7 @@ commands-preserved g c =
     let told = subst (λ (t : Standing). CommandTold t c.in-Ok-Some.command c.args.bound c.answer_command-told.new.session (g.K.Sink.written c.commands.sink) (g.K.Sink.written c.answer_command-told.new.sink) None) c.read_command.ensures.rest c.in-None.ensures.told in
     record {
       underway = goes_on (read c.commands.invariant.underway c.in-Ok-Some.command c.read_command.new.self.scope (left c.read_command.new.reader) answer c.read_command.ensures.adds) c.longer_lists_know.ensures told.1.0 c.answer_command-told.new.session told.1.1 told.0 (g.K.Sink.written c.answer_command-told.new.sink) told.1.2 (g.I.Pass.Codes.lists c.answer_command-told.new.pass) c.in-None.ensures.extends c.in-None.ensures.asked (g.I.Pass.Codes.offered c.answer_command-told.new.pass) c.in-None.ensures.offers;
+      low = low_next c.texts_give_out_few_numbers.ensures.given c.texts_give_out_few_numbers.ensures.fewer c.commands_push_few_levels.ensures c.in-Ok-Some.command (left c.commands.reader) (left c.read_command.new.reader) c.commands.session c.answer_command-told.new.session c.read_command.new.self.scope c.args.bound told.1.0 c.commands.invariant.low answer told.1.1;
       counted = omega (arith, c.commands.invariant.counted, c.in-None.ensures.counted);
       extends = Extends-trans _ _ _ c.commands.invariant.extends c.in-None.ensures.extends;
       kept = c.in-None.ensures.kept;
@@ -80,5 +83,5 @@ commands-smaller g c =
     let answer = rw c.in-Ok-Some.field-0-is at c.in-Ok-Some.ensures.answer in
     one_less c.in-Ok-Some.command (left c.commands.reader) (left c.read_command.new.reader) c.commands.session.scope c.read_command.new.self.scope answer
 
-pub returns-then-given-gt-MAX_VARIABLES-clause-answer : goal.returns-then-given-gt-MAX_VARIABLES-clause-answer
-returns-then-given-gt-MAX_VARIABLES-clause-answer g c = cut_off c.commands.invariant.underway
+pub read_command-requires : goal.read_command-requires
+read_command-requires g c = few_numbers c.commands.session.scope (left c.commands.reader) c.commands.invariant.low
