@@ -1,7 +1,6 @@
 -- Steps of elaboration: the first of two, and the turns of a loop over steps.
 use Rattle.std.proofs.Common.{◌≡◌, inl, inr, ℕ, zero, suc, ◌+◌, ◌<◌, ◌≤◌, List, [], ◌∷◌, ◌++◌, drop, get_or, length, add-one, Option, refl, ap, sym, subst, ◌∙◌, drop-cons, append_assoc, arith}
-use Rattle.std.specs.Prelude.{Result, Ok, Err, OnOk, Bool, true, false, not}
-use Rattle.std.specs.Result.{is_err}
+use Rattle.std.specs.Prelude.{Result, Ok, Err, Bool, true, false, not}
 use Rattle.std.proofs.lemmas.List.{append-nil}
 use Rattle.pt_formula.specs.declared.node.Position.{Position}
 use Rattle.pt_syntax.specs.declared.kinds.ReadKind.{ReadKind}
@@ -62,11 +61,6 @@ follow_give (Err e) = refl
 -- at the start of the loop
 pub each_start : {A B : Type 0} (f : A → Elab B) (xs ys : List A) (found : List B) (w : Work) → found ≡ [] → xs ≡ ys → (each f xs >>= λ zs. give (found ++ zs)) w ≡ each f ys w
 each_start f xs ys found w none same = rw none (follow_give (each f xs w) ∙ ap (λ zs. each f zs w) same)
-
--- what holds after an Ok, where there was no error
-pub went_well : {A E : Type 0} (r : Result A E) (P : Type 0) → is_err r ≡ false → OnOk r P → P
-went_well (Ok a) P fine h = h
-went_well (Err e) P fine h = absurd (cc)
 
 -- a test that does not pass
 pub refused_first : {B : Type 0} (b : Bool) (kind : ReadKind) (p : Position) (f : Unit {0} → Elab B) (w : Work) (e : ReadRefusal) → b ≡ true → e ≡ record { kind = kind; position = p } → Fails e ((require (not b) kind p >>= f) w)

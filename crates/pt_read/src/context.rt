@@ -105,8 +105,10 @@ impl<'s> Context<'s> {
         let es = items_in(list);
         let mut found = Vec::new(alloc);
         for e in es {
-            let c = self.constant(alloc, e)?;
-            found.push(c)?;
+            match self.constant(alloc, e) {
+                Ok(c) => found.push(c)?,
+                Err(refusal) => return Err(refusal),
+            }
         }
         Ok(Constants::new(found))
     }

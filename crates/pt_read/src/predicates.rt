@@ -43,7 +43,7 @@ fn are_among(parameters: &Parameters, variables: &[u32]) -> bool
 fn same_length(x: &Predicate, y: &Predicate, at: Position) -> Result<(), ReadRefusal>
     ensures { Says (λ _. tt {0}) result (require (length x.now.parameters == length y.now.parameters) Sort at) }
 {
-    if x.parameters.as_slice().len() == y.parameters.as_slice().len() {
+    if x.parameters.len() == y.parameters.len() {
         Ok(())
     } else {
         Err(refused(ReadKind::Sort, at))
@@ -72,7 +72,7 @@ fn predicate_with(
     if !is_closed(work, parameters, body) {
         return Err(refused(ReadKind::Unsupported, at));
     }
-    if parameters.as_slice().len() > MAX_TRACKS {
+    if parameters.len() > MAX_TRACKS {
         return Err(refused(ReadKind::Tracks, at));
     }
     let parameters = Parameters::copy_of(alloc, parameters.as_slice())?;

@@ -171,8 +171,10 @@ impl Elaborator {
         let mut numbers = Vec::new(alloc);
         for i in 0..count {
             let mark = marks[i as usize];
-            let j = self.copy_next(alloc, at, parameters, forms, numbers.as_slice(), mark, i)?;
-            numbers.push(j)?;
+            match self.copy_next(alloc, at, parameters, forms, numbers.as_slice(), mark, i) {
+                Ok(j) => numbers.push(j)?,
+                Err(refusal) => return Err(refusal),
+            }
         }
         Ok(numbers)
     }

@@ -97,7 +97,7 @@ impl<'s> Environment<'s> {
             None => Err(refused(ReadKind::Unknown, at)),
             Some(Use::Constant(_)) => Err(refused(ReadKind::Sort, at)),
             Some(Use::Definition(parameters, meaning)) => {
-                if parameters.as_slice().is_empty() {
+                if parameters.is_empty() {
                     Err(refused(ReadKind::Sort, at))
                 } else {
                     Ok((parameters.as_slice(), meaning))
@@ -140,7 +140,7 @@ fn live_use(alloc: Global, found: Option<&Use>, at: Position) -> Result<Meaning,
         None => Err(refused(ReadKind::Unknown, at)),
         Some(Use::Constant(v)) => Ok(Meaning::Int(form_of_variable(alloc, *v)?)),
         Some(Use::Definition(parameters, meaning)) => {
-            if parameters.as_slice().is_empty() {
+            if parameters.is_empty() {
                 copy_of(alloc, meaning)
             } else {
                 Err(refused(ReadKind::Sort, at))

@@ -91,8 +91,10 @@ impl Symbols {
         ensures ok { OnOk result (self.new ≡ self.old ++ record { name = name.items; stands_for = shown_use stands_for; level = level } ∷ []) }
         ensures err { OnErr result (self.new ≡ self.old) }
     {
-        self.entries.insert(name, Live { stands_for, level })?;
-        Ok(())
+        match self.entries.insert(name, Live { stands_for, level }) {
+            Ok(_) => Ok(()),
+            Err(_) => Err(NoMemory),
+        }
     }
 
     /// Takes away the names of higher levels, in constant time for each.

@@ -12,7 +12,7 @@ use Rattle.pt_read.proofs.scope.Scope.declare.Goals as goal
 pub invariant_of-self-else-is_err : goal.invariant_of-self-else-is_err
 invariant_of-self-else-is_err c =
     let named : c.in_ok-key.key.items ≡ c.args.name.now = c.in_ok-key.ensures.items ∙ c.as_slice.ensures in
-    let named' : c.in_ok-from_slice.field-0 ≡ c.args.name.now = c.in_ok-from_slice.ensures ∙ c.as_slice-2.ensures in
+    let named' : c.in_ok-copy_of.field-0 ≡ c.args.name.now = c.in_ok-copy_of.ensures ∙ c.as_slice-2.ensures in
     let new : Symbol = record { name = c.args.name.now; stands_for = Constant_of c.args.variable; level = c.self.inside.depth } in
     let added : c.push-added.new.self ≡ c.self.inside.symbols ++ new ∷ [] = on-ok c.push-added.result _ (sym c.if-is_err.ensures.value) c.push-added.ensures.ok ∙ ap (λ (n : List ℕ). c.self.inside.symbols ++ record { name = n; stands_for = Constant_of c.args.variable; level = c.self.inside.depth } ∷ []) named in
     let pushed : c.push.new.self.items ≡ c.self.inside.constants.items ++ record { name = c.args.name.now; variable = c.args.variable } ∷ [] = c.in_ok-push.ensures.items ∙ ap (λ (n : List ℕ). c.self.inside.constants.items ++ record { name = n; variable = c.args.variable } ∷ []) named' in

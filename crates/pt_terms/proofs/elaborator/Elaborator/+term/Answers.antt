@@ -32,8 +32,8 @@ arguments-loop-e-preserved t c =
     let told = each_goes (argument (term_within c.args.depth c.args.env.now)) c.args.es.now c.loop-e.e-index c.e-item.result c.loop-e.found.items c.loop-e.self _ c.loop-e-test.true c.e-item.is c.loop-e.invariant.told c.in_ok-a.a c.argument.new.self ok in
     let grows = c.in_ok-a.ensures.grows in
     record {
-      told = rw c.in-Ok.ensures.items told;
-      range = rw c.in-Ok.ensures.items (all-push (λ (a : Argument). IsMeaningIn c.argument.new.self a.1) c.loop-e.found.items c.in_ok-a.a (arguments_more c.loop-e.self c.argument.new.self c.loop-e.found.items grows c.loop-e.invariant.range) c.in_ok-a.ensures.range);
+      told = rw c.in_ok-push.ensures.items told;
+      range = rw c.in_ok-push.ensures.items (all-push (λ (a : Argument). IsMeaningIn c.argument.new.self a.1) c.loop-e.found.items c.in_ok-a.a (arguments_more c.loop-e.self c.argument.new.self c.loop-e.found.items grows c.loop-e.invariant.range) c.in_ok-a.ensures.range);
       grows = grows_trans c.args.self.now c.loop-e.self c.argument.new.self c.loop-e.invariant.grows grows;
       same = c.in_ok-a.ensures.env ∙ c.loop-e.invariant.same;
       env = rw c.in_ok-a.ensures.env (env_more c.loop-e.self c.argument.new.self c.loop-e.env grows c.loop-e.invariant.env);
@@ -45,8 +45,8 @@ bindings-loop-e-preserved t c =
     let told = bindings-goes (term_within c.args.depth c.args.env.now) c.args.es.now c.loop-e.e-index c.e-item.result c.loop-e.found c.loop-e.self c.binding.new.self _ c.loop-e-test.true c.e-item.is c.loop-e.invariant.told (c.in_ok-name.name.now, c.in_ok-name.m) ok in
     let grows = c.in_ok-name.ensures.grows in
     record {
-      told = rw c.in-Ok.ensures told;
-      range = rw c.in-Ok.ensures (c.in_ok-name.ensures.range, bindings-more c.loop-e.self c.binding.new.self c.loop-e.found grows c.loop-e.invariant.range);
+      told = rw c.in_ok-push.ensures told;
+      range = rw c.in_ok-push.ensures (c.in_ok-name.ensures.range, bindings-more c.loop-e.self c.binding.new.self c.loop-e.found grows c.loop-e.invariant.range);
       grows = grows_trans c.args.self.now c.loop-e.self c.binding.new.self c.loop-e.invariant.grows grows;
       same = c.in_ok-name.ensures.env ∙ c.loop-e.invariant.same;
       env = rw c.in_ok-name.ensures.env (env_more c.loop-e.self c.binding.new.self c.loop-e.env grows c.loop-e.invariant.env);

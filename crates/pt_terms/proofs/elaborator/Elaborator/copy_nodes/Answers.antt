@@ -1,6 +1,4 @@
 use Rattle.std.proofs.Common.{◌≡◌, ◌<◌, ◌+◌, [], ◌∷◌, ◌++◌, map, zip, length, length-append, arith, ◌∙◌, sym, ap, subst, All}
-use Rattle.std.specs.Prelude.{not, true, if◌then◌else◌}
-use Rattle.std.specs.Result.{is_ok}
 use Rattle.pt_terms.proofs.Ranges.{forms_more, nodes_more}
 use Rattle.pt_terms.proofs.BelowLemmas.{grows_trans}
 use Rattle.pt_terms.proofs.NodeCopies.{copying_fails, copying_goes, all-pushed}
@@ -16,8 +14,7 @@ pub loop-i-preserved : goal.loop-i-preserved
 loop-i-preserved c =
     let within : c.loop-i.i < length c.args.marks.now = omega (arith, c.loop-i-test.true, c.requires.marks) in
     let inside : c.loop-i.i < length c.args.self.now.formula = omega (arith, c.loop-i-test.true, c.requires.count) in
-    let went : is_ok c.push.result ≡ true = c.is_err.ensures.negation ∙ ap not c.if-is_err.false in
-    let pushed : c.push.new.self.items ≡ c.loop-i.numbers.items ++ c.in-Ok.j ∷ [] = c.push.ensures.items ∙ ap (λ b. if b then c.loop-i.numbers.items ++ c.in-Ok.j ∷ [] else c.loop-i.numbers.items) went in
+    let pushed : c.push.new.self.items ≡ c.loop-i.numbers.items ++ c.in-Ok.j ∷ [] = c.in_ok-push-in-Ok.ensures.items in
     record {
       told = rw pushed (copying_goes c.args.at (zip c.args.parameters.now (map (λ f. f.now) c.args.forms.now)) c.args.self.now c.loop-i.numbers.items c.args.marks.now c.loop-i.i c.loop-i.self _ within c.loop-i.invariant.size inside c.loop-i.invariant.grows c.loop-i.invariant.told _ c.as_slice.result.now c.as_slice.ensures.value c.in-Ok.j c.copy_next.new.self c.in-Ok.ensures.gives);
       size = ap length pushed ∙ length-append c.loop-i.numbers.items (c.in-Ok.j ∷ []) ∙ ap (λ n. n + 1) c.loop-i.invariant.size;
