@@ -2,6 +2,7 @@
 use Rattle.std.proofs.Common.{◌≡◌, ℕ, zero, suc, ◌+◌, ◌<◌, ◌≤◌, ◌^◌, Bool, true, false, not, ◌||◌, ◌==◌, if◌then◌else◌, List, [], ◌∷◌, length, map, reverse, refl, sym, ap, subst, arith, Option, Some, None}
 use Rattle.std.specs.Prelude.{Result, Ok, Err, ℤ, pos, neg_ℤ, nat_lt, nat_le, bytes_eq, codes, sum_by, IsTrue}
 use Rattle.std.specs.List.{list_all}
+use Rattle.std.proofs.lemmas.Bool.{ltb-true}
 use Rattle.std.proofs.lemmas.List.Sums.{sum_by-cons}
 use Rattle.pt_formula.specs.declared.node.Node.{Node}
 use Rattle.pt_formula.specs.declared.node.Node.TheVariants as node
@@ -133,7 +134,7 @@ adds-new-name s e =
     (adds-require 0 (not (is_reserved (name_of (symbol_of e)) || is_live s.symbols (name_of (symbol_of e)))) Redeclared (place_of e)) (λ _. adds-give 0 (name_of (symbol_of e)))
 
 adds-number : (e : SExpr) → AddsAtMost 0 (Commands.number e)
-adds-number e = adds-numeral (place_of e) (Commands.number.items_digits e (numeral_of e))
+adds-number e = adds-numeral (place_of e) (Commands.digits_or_none (numeral_of e))
 
 adds-number-or-one : (es : List SExpr) → AddsAtMost 0 (Commands.number_or_one es)
 adds-number-or-one [] = adds-give 0 1
@@ -260,6 +261,7 @@ abbrev at_most : List SExpr → ℕ
 at_most items = sum_by (size_within (looks 257)) items
 
 adds-asserted : TermsAddFew → (s : State) (p : Position) (e : SExpr) → AddsAtMost (size_within (looks 257) e) (Commands.asserted s p e)
+unfolding term
 adds-asserted few s p e =
     adds-more (size_within (looks 257) e + 0) (size_within (looks 257) e) (Commands.asserted s p e) (omega arith)
     (adds-then (size_within (looks 257) e) 0 (term (Commands.env s) e) (λ m. truth_of (place_of e) m >>= λ t. Commands.conjunction_with s p t >>= λ c. give (kind.Assert t c)) (few 257 (Commands.env s) e)
@@ -272,6 +274,7 @@ define-size name parameters sort body more n =
     omega (arith, items-within n parameters, sum_by-cons (size_within (suc n)) name (parameters ∷ sort ∷ body ∷ more), sum_by-cons (size_within (suc n)) parameters (sort ∷ body ∷ more), sum_by-cons (size_within (suc n)) sort (body ∷ more), sum_by-cons (size_within (suc n)) body more)
 
 adds-defined : TermsAddFew → (s : State) (name parameters sort body : SExpr) (n : ℕ) → looks 257 ≡ suc n → AddsAtMost (sum_by (size_within n) (items_or_none (items_of parameters)) + (size_within (suc n) body + 0)) (Commands.defined s name parameters sort body)
+unfolding term
 adds-defined few s name parameters sort body n is =
     let es : List SExpr = items_or_none (items_of parameters) in
     adds-on (sum_by (size_within n) es + (size_within (suc n) body + 0)) (Commands.new_name s name)
@@ -356,7 +359,7 @@ adds-by-row few s p q None items = adds-refuse (at_most items) Unsupported q
 adds-by-row few s p q (Some r) items = adds-unless (at_most items) (items_fault p r.forms r.more items) (Commands.understood s p r.verb items) (adds-understood few s p r.verb items)
 
 adds-named : TermsAddFew → (s : State) (p q : Position) (name : Option Name) (items : List SExpr) → AddsAtMost (at_most items) (Commands.named s p q name items)
-adds-named few s p q None items = adds-refuse (at_most items) Syntax q
+adds-named few s p q None items = adds-refuse (at_most items) Syntax p
 adds-named few s p q (Some name) items = adds-by-row few s p q (row_in table name) items
 
 adds-list : TermsAddFew → (s : State) (p : Position) (items : List SExpr) → AddsAtMost (at_most items) (Commands.list_command s p items)
@@ -401,7 +404,7 @@ below-require : (n : ℕ) (p : Position) → Ends (λ _. n < 2 ^ 63) (require (n
 below-require n p = by (nat_lt n (2 ^ 63)) refl
   where
     by : (b : Bool) → nat_lt n (2 ^ 63) ≡ b → Ends (λ _. n < 2 ^ 63) (require b Coefficient p)
-    by true is = ends-give (λ _. n < 2 ^ 63) tt (omega (arith, is))
+    by true is = ends-give (λ _. n < 2 ^ 63) tt (ltb-true n (2 ^ 63) is)
     by false is = ends-refuse (λ _. n < 2 ^ 63) Coefficient p
 
 small-numeral : (p : Position) (digits : List ℕ) → Ends (λ n. n < 2 ^ 63) (Terms.numeral p digits)
@@ -410,7 +413,7 @@ small-numeral p digits =
 
 small-number : (es : List SExpr) → Ends (λ n. n < 2 ^ 63) (Commands.number_or_one es)
 small-number [] = ends-give (λ n. n < 2 ^ 63) 1 (omega arith)
-small-number (e ∷ es) = small-numeral (place_of e) (Commands.number.items_digits e (numeral_of e))
+small-number (e ∷ es) = small-numeral (place_of e) (Commands.digits_or_none (numeral_of e))
 
 shallow-declared : (s : State) (name sort : SExpr) → Ends IsShallow (Commands.declared s name sort)
 shallow-declared s name sort =
@@ -428,6 +431,7 @@ shallow-one : (s : State) (how : Predicate → CommandKind) (a : SExpr) → ((x 
 shallow-one s how a h = ends-then IsShallow (Commands.predicate s a) (λ x. give (how x)) (λ x. ends-give IsShallow (how x) (h x))
 
 shallow-understood : (s : State) (p : Position) (v : Verb) (items : List SExpr) → Ends IsShallow (Commands.understood s p v items)
+unfolding term
 shallow-understood s p verb.SetLogic [] = ends-refuse IsShallow Syntax p
 shallow-understood s p verb.SetLogic (e ∷ more) = ends-then IsShallow (require (is_among (name_of (symbol_of e)) Commands.logics) Logic (place_of e)) (λ _. give kind.SetLogic) (λ _. ends-give IsShallow kind.SetLogic tt)
 shallow-understood s p verb.SetInfo items = ends-give IsShallow kind.SetInfo tt
@@ -504,7 +508,7 @@ shallow-by-row s p q (Some r) items = unless (items_fault p r.forms r.more items
     unless (Some at) = ends-refuse IsShallow Syntax at
 
 shallow-named : (s : State) (p q : Position) (name : Option Name) (items : List SExpr) → Ends IsShallow (Commands.named s p q name items)
-shallow-named s p q None items = ends-refuse IsShallow Syntax q
+shallow-named s p q None items = ends-refuse IsShallow Syntax p
 shallow-named s p q (Some name) items = shallow-by-row s p q (row_in table name) items
 
 shallow-list : (s : State) (p : Position) (items : List SExpr) → Ends IsShallow (Commands.list_command s p items)

@@ -36,12 +36,12 @@ env s = record { bound = []; live = s.symbols }
 abbrev pub new_name : State → SExpr → Elab Name
 new_name s e = require (not (is_reserved (name_of (symbol_of e)) || is_live s.symbols (name_of (symbol_of e)))) Redeclared (place_of e) >>= λ _. give (name_of (symbol_of e))
 
+abbrev pub digits_or_none : Option (List ℕ) → List ℕ
+digits_or_none None = []
+digits_or_none (Some digits) = digits
+
 abbrev pub number : SExpr → Elab ℕ
-number e = numeral (place_of e) (items_digits (numeral_of e))
-  where
-    items_digits : Option (List ℕ) → List ℕ
-    items_digits None = []
-    items_digits (Some digits) = digits
+number e = numeral (place_of e) (digits_or_none (numeral_of e))
 
 abbrev pub number_or_one : List SExpr → Elab ℕ
 number_or_one [] = give 1

@@ -19,4 +19,4 @@ loop-e-preserved c = λ (w : Work).
     (each_goes (λ e. constant_of c.args.self.now e (symbol_of e)) c.items_in-es.result.now c.loop-e.e-index c.e-item.result c.loop-e.found.items w _ c.loop-e-test.true c.e-item.is (c.loop-e.invariant w) c.in-Ok.c w (c.in-Ok.ensures w))
 
 pub returns : goal.returns
-returns c = λ (w : Work). each_done (λ e. constant_of c.args.self.now e (symbol_of e)) c.items_in-es.result.now c.loop-e.e-index c.loop-e.found.items w _ c.loop-e-test.false (c.loop-e.invariant w)
+returns c = λ (w : Work). rw c.new.ensures (each_done (λ e. constant_of c.args.self.now e (symbol_of e)) c.items_in-es.result.now c.loop-e.e-index c.loop-e.found.items w _ c.loop-e-test.false (c.loop-e.invariant w))
