@@ -25,3 +25,9 @@ pub mod Substituting
 pub mod Nodes
 pub mod NodeCopies
 pub mod TermLaws
+pub mod KeepSteps
+pub mod KeepNodes
+pub mod KeepForms
+pub mod KeepTheory
+pub mod KeepCopies
+pub mod KeepTerms

@@ -12,3 +12,4 @@ pub mod Chains
 pub mod Layers
 pub mod Copies
 pub mod Free
+pub mod Keeps

@@ -6,6 +6,7 @@ ghost use Rattle.pt_terms.specs.Names.{Env};
 ghost use Rattle.pt_terms.specs.Gives.{Grows};
 ghost use Rattle.pt_terms.specs.Sound.{IsEnvIn};
 ghost use Rattle.pt_terms.specs.Free.{Nodes, IsWhole, AreTermsOver};
+ghost use Rattle.pt_terms.specs.Keeps.{TermsKeep, ConjunctionsKeep};
 
 use pt_formula::laws::{
     appended_nodes_change_no_earlier_one, trees_are_made_of_those_of_the_children,
@@ -25,3 +26,13 @@ pub fn terms_are_over_the_names_that_they_see()
 pub fn names_stay_in_range()
     ensures { (v w : Work) (env : Env) → Grows v w → IsEnvIn v env → IsEnvIn w env }
 {}
+
+/// From a well-formed formula on, over variables that have been given out, a term only adds to it and leaves it so, and what
+/// the term stands for is in its range; and so does the conjunction of two nodes.
+pub fn terms_keep_formulas_well_formed()
+    ensures terms { TermsKeep }
+    ensures conjunctions { ConjunctionsKeep }
+{
+    appended_nodes_change_no_earlier_one();
+    trees_are_made_of_those_of_the_children();
+}
