@@ -27,3 +27,9 @@ pub mod NodeCopies
 pub mod TermLaws
 pub mod Adding
 pub mod FewNumbers
+pub mod KeepSteps
+pub mod KeepNodes
+pub mod KeepForms
+pub mod KeepTheory
+pub mod KeepCopies
+pub mod KeepTerms

@@ -9,6 +9,7 @@ ghost use Rattle.pt_terms.specs.Names.{Env};
 ghost use Rattle.pt_terms.specs.Gives.{Grows};
 ghost use Rattle.pt_terms.specs.Sound.{IsEnvIn};
 ghost use Rattle.pt_terms.specs.Free.{Nodes, IsWhole, AreTermsOver};
+ghost use Rattle.pt_terms.specs.Keeps.{TermsKeep, ConjunctionsKeep};
 ghost use Rattle.pt_terms.specs.Numbers.{AddsAtMost, looks};
 ghost use Rattle.pt_terms.specs.Terms.{term_within};
 
@@ -37,4 +38,14 @@ pub fn terms_give_out_few_numbers()
     ensures { (depth : ℕ) (env : Env) (e : SExprValue) → AddsAtMost (size_within (looks depth) e) (term_within depth env e) }
 {
     a_deeper_look_finds_no_less();
+}
+
+/// From a well-formed formula on, over variables that have been given out, a term only adds to it and leaves it so, and what
+/// the term stands for is in its range; and so does the conjunction of two nodes.
+pub fn terms_keep_formulas_well_formed()
+    ensures terms { TermsKeep }
+    ensures conjunctions { ConjunctionsKeep }
+{
+    appended_nodes_change_no_earlier_one();
+    trees_are_made_of_those_of_the_children();
 }
