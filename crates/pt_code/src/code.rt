@@ -64,6 +64,14 @@ impl Code {
         Code { numbers }
     }
 
+    /// A law, which does nothing: each code has the shape of one.
+    pub fn has_shape(&self)
+        ensures { HasShape self.now }
+    {
+        // The invariant of a type is known where one of its fields is used.
+        let _ = &self.numbers;
+    }
+
     /// How many tracks the component's letters have.
     pub fn tracks(&self) -> u32
         ensures { result ≡ tracks_of self.now }

@@ -3,7 +3,6 @@ ghost use Rattle.std.specs.Prelude.{◌≡◌, ◌≤◌, ◌<◌, ◌+◌, ◌^
 ghost use Rattle.std.specs.HashMap.{get};
 ghost use Rattle.pt_sets.specs.declared.Place.{Place};
 ghost use Rattle.pt_sets.specs.Automata.{KeepsSign, next_of, output_of};
-ghost use Rattle.pt_sets.specs.Components.{HasShape};
 ghost use Rattle.pt_sets.specs.Known.{KnowsPlace, IsStateBelow, IsBelow};
 ghost use Rattle.pt_handles.specs.Handles.{IsKnown, state_of};
 ghost use Rattle.pt_handles.specs.Rows.{IsNumbered, AddsState, IsLaid, same_place, size_of};
@@ -12,7 +11,7 @@ ghost use Rattle.pt_handles.specs.Knowing.{Refutes, IsStateOf, HasStates, IsTest
 use crate::expansion::{Row, code_of, end_of};
 use crate::finding::Stop;
 use crate::handle::Handle;
-use pt_code::{Code, Exit, Place};
+use pt_code::{Exit, Place};
 use pt_store::Codes;
 use pt_tables::Table;
 use std::alloc::Global;
@@ -26,13 +25,6 @@ fn is_state<P: Codes>(pass: &P, tracks: u32, state: Exit) -> bool
         Some(code) => code.tracks() == tracks && state.entry < code.states(),
         None => false,
     }
-}
-
-/// A law, which does nothing: a code has the shape of one.
-fn code_has_shape(code: &Code)
-    ensures { HasShape code.now }
-{
-    let _ = code.exits();
 }
 
 /// The number of a state in the row; its place goes last where it is new. Stops where it is no state of the row's tracks,
@@ -56,7 +48,7 @@ fn explore_exit<P: Codes>(pass: &P, row: &mut Row, state: Exit) -> Result<u32, S
     }
     let offset = row.total;
     let code = code_of(pass, state.place);
-    code_has_shape(code);
+    code.has_shape();
     let size = code.states();
     if size > 65536 - offset {
         return Err(Stop::Unknown);
@@ -88,7 +80,7 @@ fn explore_state<P: Codes>(
     ensures err { IfErr result (Refutes (KnowsPlace P.home (P.lists pass.now) row.old.tracks row.old.root)) }
 {
     let code = code_of(pass, place);
-    code_has_shape(code);
+    code.has_shape();
     for letter in 0..1u16 << row.tracks {
         outputs.push(code.output(state, letter))?;
         let end = end_of(place, code.edge(state, letter));
@@ -142,7 +134,7 @@ fn root_row<P: Codes>(alloc: Global, pass: &P, handle: Handle) -> Result<Row, St
     let mut offsets = HashMap::new(alloc);
     offsets.insert(handle.place, 0)?;
     let code = code_of(pass, handle.place);
-    code_has_shape(code);
+    code.has_shape();
     let total = code.states();
     Ok(Row {
         tracks: handle.tracks,

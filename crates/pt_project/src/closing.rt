@@ -80,7 +80,7 @@ pub(crate) fn closing_states(
     ensures length { IfOk result (λ marks. vec_len marks ≡ table.now.states) }
     ensures marks { IfOk result (λ marks. (x : ℕ) → x < table.now.states → IsMarked marks.items x ↔ Leads table.now zero one x) }
 {
-    let _valid = table.states();
+    table.is_automaton();
     let sources = sources(alloc, table, zero, one)?;
     let mut marks = states_with_output(alloc, table, zero, one)?;
     let mut open = marked_states(alloc, &marks)?;

@@ -28,7 +28,7 @@ explore_exit-requires-clause-below g c =
     let letter : c.loop-letter.letter < 2 ^ c.args.row.now.tracks = grind (arith, common_steps) in
     let end : c.end_of-end.result ≡ next_in lists q c.loop-letter.letter =
     c.end_of-end.ensures ∙ ap (follow c.args.place) (c.edge.ensures ∙ ap (λ (code : List ℕ). edge_of code c.args.state c.loop-letter.letter) c.code_of-code.ensures) in
-    let below = below-next lists c.args.row.now.tracks c.args.row.now.root q c.loop-letter.letter (subst HasShape c.code_of-code.ensures c.code_has_shape.ensures) c.requires.below c.requires.state letter in
+    let below = below-next lists c.args.row.now.tracks c.args.row.now.root q c.loop-letter.letter (subst HasShape c.code_of-code.ensures c.has_shape.ensures) c.requires.below c.requires.state letter in
     subst (λ (p : Place). IsBelow lists p c.end_of-end.result.place) (sym c.loop-letter.invariant.root) (subst (λ (x : Exit). IsBelow lists c.args.row.now.root x.place) (sym end) below)
 
 pub explore_exit-requires-clause-state : goal.explore_exit-requires-clause-state

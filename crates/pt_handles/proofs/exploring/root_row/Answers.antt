@@ -24,5 +24,5 @@ returns-clause-row g c =
           subst (λ (ps : List Place). IsRow lists root ps (get same_place c.insert.new.self) c.states-total.result) places
           (row-first lists root (get same_place c.new-offsets.result) (get same_place c.insert.new.self) c.states-total.result none c.in_ok-insert.ensures.updates.1 c.in_ok-insert.ensures.updates.2 size);
       good = subst (λ (ps : List Place). All (HasStates lists t) ps) places (All-push (HasStates lists t) [] root (λ k d h. absurd (omega arith)) (has-states lists t (state_of c.args.handle) (record { tracks = c.requires.tracks; in_range = c.requires.in_range })));
-      few = subst (λ (n : ℕ). n ≤ 65536) (sym c.states-total.ensures) c.code_has_shape.ensures.sizes.few_states;
+      few = subst (λ (n : ℕ). n ≤ 65536) (sym c.states-total.ensures) c.has_shape.ensures.sizes.few_states;
     }

@@ -40,7 +40,7 @@ loop-state-preserved c =
 
 pub returns-clause-marks : goal.returns-clause-marks
 returns-clause-marks c =
-    let rules = c.states-valid.ensures.valid in
+    let rules = c.is_automaton.ensures in
     let size = c.in_default.ensures.cases.0 in
     let none : c.loop-state.open.items ≡ [] = no-items c.loop-state.open.items (omega (arith, size, c.loop-state.open.ok.0)) in
     closing-ends c.args.table.now c.args.zero c.args.one c.loop-state.marks.items (subst (λ (xs : List ℕ). IsClosing c.args.table.now c.args.zero c.args.one c.loop-state.marks.items xs) none c.loop-state.invariant)
