@@ -7,6 +7,7 @@ mod indexed;
 mod laws;
 mod local;
 mod shard;
+mod shard_turn;
 mod spread;
 mod traits;
 
