@@ -1,6 +1,5 @@
 -- Fronts of lists of codes.
-use Rattle.std.proofs.Common.{◌≡◌, ℕ, ◌<◌, ◌≤◌, ◌+◌, min, zero, suc, List, [], ◌∷◌, ◌++◌, length, take, slice_get, refl, ap, sym, ◌∙◌, Some, arith}
-use Rattle.std.proofs.lemmas.List.{length-take}
+use Rattle.std.proofs.Common.{◌≡◌, ℕ, ◌≤◌, ◌+◌, zero, suc, List, [], ◌∷◌, ◌++◌, length, take, slice_get, refl, ap, sym, ◌∙◌, Some, arith}
 use Rattle.pt_sets.proofs.ListLaws.{prefix-length}
 use Rattle.pt_store.specs.Shards.{Begins, Agree}
 use Rattle.pt_store.proofs.Agreeing.{Agree-Begins}

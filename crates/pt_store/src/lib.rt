@@ -8,6 +8,8 @@ mod laws;
 mod local;
 mod shard;
 mod shard_turn;
+mod shard_turns;
+mod shared;
 mod spread;
 mod traits;
 
@@ -19,6 +21,7 @@ pub use laws::{
 };
 pub use local::{LocalPass, LocalStore};
 pub use shard::{MAX_CODES, Shard};
+pub use shared::{HeldPass, HoldRefused, SharedPass, SharedStore};
 pub use spread::{Mixed, OneShard};
 pub use traits::{Codes, Interner, Sharing, Spread};
 

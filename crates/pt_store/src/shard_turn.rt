@@ -55,11 +55,7 @@ impl ShardPass {
     }
 
     /// Puts a code last.
-    pub(crate) fn push(
-        &mut self,
-        lock: &ShardLock<Shard>,
-        code: HashedCode,
-    ) -> Result<(), NoMemory>
+    pub(crate) fn push(&mut self, lock: &ShardLock<Shard>, code: HashedCode) -> Result<(), NoMemory>
         requires held { Held lock.now self.old }
         requires room { length self.old.list < lock.now.limit }
         requires limit { lock.now.limit ≤ MAX_CODES }

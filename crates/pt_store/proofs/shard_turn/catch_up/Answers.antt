@@ -1,4 +1,4 @@
-use Rattle.std.proofs.Common.{rules, arith, ◌≡◌, ◌∷◌, ◌++◌, [], ◌∙◌, ap, sym, slice_get, Some}
+use Rattle.std.proofs.Common.{rules, arith, ◌≡◌, ◌∷◌, ◌++◌, [], ◌∙◌, ap, slice_get, Some}
 use Rattle.pt_store.proofs.Fronts.{take-more}
 use Rattle.pt_store.proofs.shard_turn.catch_up.Goals as goal
 
