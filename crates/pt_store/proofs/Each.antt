@@ -1,10 +1,10 @@
 -- Passes of all shards, which are changed one by one.
-use Rattle.std.proofs.Common.{◌≡◌, inl, inr, ℕ, ◌+◌, ◌<◌, ◌≤◌, List, [], ◌∷◌, ◌++◌, Result, Ok, Err, OnOk, OnErr, length, length-append, take, set, get_or, sym, ◌∙◌, subst, arith, get_or-set_same, get_or-set_other}
+use Rattle.std.proofs.Common.{◌≡◌, inl, inr, ℕ, ◌+◌, ◌<◌, ◌≤◌, List, [], ◌∷◌, ◌++◌, Result, Ok, Err, OnOk, OnErr, All, length, length-append, take, set, get_or, ap, sym, ◌∙◌, subst, arith, get_or-set_same, get_or-set_other}
 use Rattle.std.proofs.Math.ListN.{length-set, get_or-append}
 use Rattle.std.proofs.Math.Seq.{take-length, map-set_same, get_or-append_seam}
 use Rattle.std.proofs.lemmas.Bool.{cases_lt, cases_eq}
 use Rattle.std.proofs.lemmas.List.{get_or-map, map-set, length-map}
-use Rattle.pt_sets.specs.Lists.{Lists, list_of, Extends}
+use Rattle.pt_sets.specs.Lists.{Lists, list_of, Extends, IsWithin}
 use Rattle.pt_sets.proofs.ListLaws.{Extends-trans}
 use Rattle.pt_turns.specs.Turns.{LockName}
 use Rattle.pt_store.specs.Shards.{Begins}
@@ -128,3 +128,15 @@ AtEach-push P locks passes lock pass each here = record {
         rw (in_locks, in_passes) here
   ];
 }
+
+-- passes that hold the shards show lists within the limit
+pub lists-within : (limit : ℕ) (locks : List LockName) (passes : List ShardPass) → AtEach Held locks passes → All (λ (lock : LockName). lock.limit ≡ limit) locks → IsWithin limit (lists_of passes)
+lists-within limit [] passes each limits shard codes within =
+    absurd (omega (arith, each.count, length-map passes (λ (p : ShardPass). p.list), within))
+lists-within limit (lock ∷ locks) [] each limits shard codes within = absurd (omega arith)
+lists-within limit (lock ∷ locks) (pass ∷ passes) each limits shard codes within =
+    let in_passes : shard < length (pass ∷ passes) = omega (arith, length-map (pass ∷ passes) (λ (p : ShardPass). p.list), within) in
+    let in_locks : shard < length (lock ∷ locks) = omega (arith, each.count, in_passes) in
+    let shown : length (get_or (pass ∷ passes) shard pass).list ≤ (get_or (lock ∷ locks) shard lock).limit = (each.each shard lock pass in_locks).within in
+    let same = get_or-map (λ (p : ShardPass). p.list) (pass ∷ passes) shard pass codes in_passes in
+    omega (arith, ap length same, shown, limits shard lock in_locks)

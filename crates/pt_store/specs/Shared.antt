@@ -2,7 +2,8 @@
 use Rattle.std.specs.Prelude.{◌≡◌, ℕ, ◌<◌, ◌≤◌, List, All, length, map, slice_index_or}
 use Rattle.pt_turns.specs.Turns.{LockName, IsOf, IsFree, Codes}
 use Rattle.pt_turns.specs.Turns as turns
-use Rattle.pt_sets.specs.Lists.{Lists}
+use Rattle.pt_sets.specs.Lists.{Lists, IsWithin}
+use Rattle.pt_sets.specs.declared.Place.{Place}
 use Rattle.pt_store.specs.Shards.{Begins}
 use Rattle.pt_store.specs.declared.shard_turn.ShardPass.{ShardPass}
 
@@ -41,6 +42,10 @@ pub record AtEach (P : LockName → ShardPass → Type 0) (locks : List LockName
 abbrev pub lists_of : List ShardPass → Lists
 lists_of passes = map (λ p. p.list) passes
 
+-- a place in a shard
+abbrev pub place_at : ℕ → ℕ → Place
+place_at shard index = record { shard = shard; index = index }
+
 -- the locks of a store, and how many codes each shard may have
 pub record Locks : Type 0 where
   pub locks : List LockName
@@ -67,3 +72,4 @@ pub record OwnsWaiting (store : Locks) (pass : Passes) : Type 0 where
 pub record OwnsHeld (store : Locks) (pass : Passes) : Type 0 where
   pub locks : AreLocks store
   pub each : AtEach Held store.locks pass.shards
+  pub within : IsWithin store.limit (lists_of pass.shards)

@@ -1,18 +1,20 @@
 // Passes of all shards, each with its lock, in order.
-ghost use Rattle.std.specs.Prelude.{◌≡◌, ◌<◌, ◌≤◌, All, length, position, replicate, OnOk, OnErr, IfOk, [], vec_len};
+ghost use Rattle.std.specs.Prelude.{◌≡◌, ◌<◌, ◌≤◌, All, length, position, option_map, OnOk, OnErr, IfOk};
+ghost use Rattle.std.specs.Arc.{arc_value};
 ghost use Rattle.pt_turns.specs.Turns.{LockName};
-ghost use Rattle.pt_sets.specs.Lists.{Extends, list_of, code_eq};
+ghost use Rattle.pt_sets.specs.Lists.{Extends, code_at, list_of, code_eq};
 ghost use Rattle.pt_store.specs.Interning.{Joins};
 ghost use Rattle.pt_store.specs.Local.{push_code};
-ghost use Rattle.pt_store.specs.Shared.{Waits, Taken, Held, Holds, AtEach, lists_of};
+ghost use Rattle.pt_store.specs.Shared.{Waits, Taken, Held, Holds, AtEach, lists_of, place_at};
 
 use crate::fault::NoMemory;
 use crate::hashed::HashedCode;
 use crate::shard::{MAX_CODES, Shard};
 use crate::shard_turn::ShardPass;
+use pt_code::{Code, Place};
 use pt_turns::ShardLock;
 use std::alloc::Global;
-use std::sync::Wait;
+use std::sync::{Arc, Wait};
 
 /// Waits for all turns, in order of shard.
 pub(crate) fn take_all<R: Wait>(rt: &R, locks: &[ShardLock<Shard>], passes: &mut Vec<ShardPass>)
@@ -121,4 +123,23 @@ pub(crate) fn push_in(
     ensures err { OnErr result (lists_of passes.new.items ≡ lists_of passes.old.items) }
 {
     passes[shard as usize].push(&locks[shard as usize], code)
+}
+
+/// The code at a place.
+pub(crate) fn code_in(passes: &[ShardPass], place: Place) -> Option<&Arc<Code>>
+    ensures { option_map (λ code. arc_value code.now) result ≡ code_at (lists_of passes.now) place }
+{
+    let pass = passes.get(place.shard as usize)?;
+    pass.list.code(place.index)
+}
+
+/// The first place of a code in the list of a shard.
+pub(crate) fn place_in(passes: &[ShardPass], shard: u32, code: &Code) -> Option<Place>
+    requires { shard < length passes.now }
+    ensures { result ≡ option_map (place_at shard) (position (code_eq code.now) (list_of (lists_of passes.now) shard)) }
+{
+    match passes[shard as usize].list.find(code) {
+        Some(index) => Some(Place { shard, index }),
+        None => None,
+    }
 }

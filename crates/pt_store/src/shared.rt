@@ -11,7 +11,8 @@ use crate::hashed::HashedCode;
 use crate::shard::{MAX_CODES, Shard};
 use crate::shard_turn::ShardPass;
 use crate::shard_turns::{
-    catch_up_all, count_in, find_in, join_all, push_in, release_all, split_all, take_all,
+    catch_up_all, code_in, count_in, find_in, join_all, place_in, push_in, release_all, split_all,
+    take_all,
 };
 use crate::traits::{Codes, Interner, Spread};
 use pt_code::{Code, Place};
@@ -225,5 +226,125 @@ impl<S: Spread> SharedStore<S> {
         join_all(self.locks.as_slice(), &mut pass.shards, &mut others);
         pass.offers = pass.offers.saturating_add(offers);
         Ok(())
+    }
+}
+
+impl<S: Spread> Codes for SharedPass<S> {
+    ghost home = { S.home };
+
+    ghost lists = { λ p. lists_of p.shards };
+
+    ghost offered = { λ p. p.offers };
+
+    ghost has_home = { λ p code h. S.below code _ h };
+
+    fn shards(&self) -> u32 {
+        self.shards.len() as u32
+    }
+
+    fn count(&self, shard: u32) -> u32 {
+        count_in(self.shards.as_slice(), shard)
+    }
+
+    fn code(&self, place: Place) -> Option<&Arc<Code>> {
+        code_in(self.shards.as_slice(), place)
+    }
+
+    fn find(&self, code: &Code) -> Option<Place> {
+        let shard = self.spread.shard(code, self.shards());
+        place_in(self.shards.as_slice(), shard, code)
+    }
+
+    fn offers(&self) -> u64 {
+        self.offers
+    }
+}
+
+impl<S: Spread> Codes for HeldPass<S> {
+    ghost home = { S.home };
+
+    ghost lists = { λ p. lists_of p.shards };
+
+    ghost offered = { λ p. p.offers };
+
+    ghost has_home = { λ p code h. S.below code _ h };
+
+    fn shards(&self) -> u32 {
+        self.shards.len() as u32
+    }
+
+    fn count(&self, shard: u32) -> u32 {
+        count_in(self.shards.as_slice(), shard)
+    }
+
+    fn code(&self, place: Place) -> Option<&Arc<Code>> {
+        code_in(self.shards.as_slice(), place)
+    }
+
+    fn find(&self, code: &Code) -> Option<Place> {
+        let shard = self.spread.shard(code, self.shards());
+        place_in(self.shards.as_slice(), shard, code)
+    }
+
+    fn offers(&self) -> u64 {
+        self.offers
+    }
+}
+
+impl<S: Spread> HeldPass<S> {
+    /// Interns a code in the list of its home.
+    fn offer(&mut self, store: &SharedStore<S>, code: Arc<Code>) -> Result<Place, StoreFault>
+        requires { OwnsHeld store.now self.old }
+        ensures kept { OwnsHeld store.now self.new }
+        ensures present { IfSome (find S.home (lists_of self.old.shards) (arc_value code)) (λ place. (result ≡ Ok place) × (self.new ≡ self.old)) }
+        ensures counted { IfNone (find S.home (lists_of self.old.shards) (arc_value code)) (self.new.offers ≡ one_more self.old.offers) }
+        ensures ok { IfNone (find S.home (lists_of self.old.shards) (arc_value code)) (IfOk result (IsPushed S.home (arc_value code) (lists_of self.old.shards) (lists_of self.new.shards))) }
+        ensures same { OnErr result (lists_of self.new.shards ≡ lists_of self.old.shards) }
+        ensures err { IfErr result (RefusesFull S.home store.now.limit (lists_of self.old.shards) (arc_value code)) }
+    {
+        let shard = self.spread.shard(&code, self.shards());
+        let code = HashedCode::new(code);
+        if let Some(index) = find_in(self.shards.as_slice(), shard, &code) {
+            return Ok(Place { shard, index });
+        }
+        self.offers = self.offers.saturating_add(1);
+        let index = count_in(self.shards.as_slice(), shard);
+        if index >= store.limit {
+            return Err(StoreFault::Full {
+                shard,
+                count: store.limit,
+            });
+        }
+        push_in(
+            store.locks.as_slice(),
+            &mut self.shards,
+            shard,
+            store.limit,
+            code,
+        )?;
+        Ok(Place { shard, index })
+    }
+}
+
+impl<S: Spread + Send> Interner for SharedStore<S> {
+    type Pass = HeldPass<S>;
+
+    ghost limit_of = { λ s. s.limit };
+
+    ghost owns = { OwnsHeld };
+
+    ghost within = { λ store pass h. h.within };
+
+    fn limit(&self) -> u32 {
+        self.limit
+    }
+
+    fn intern(
+        &self,
+        _alloc: Global,
+        pass: &mut HeldPass<S>,
+        code: Arc<Code>,
+    ) -> Result<Place, StoreFault> {
+        pass.offer(self, code)
     }
 }
