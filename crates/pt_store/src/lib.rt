@@ -28,4 +28,6 @@ pub use traits::{Codes, Interner, Sharing, Spread};
 #[cfg(test)]
 mod shard_tests;
 #[cfg(test)]
+mod shared_tests;
+#[cfg(test)]
 mod tests;
