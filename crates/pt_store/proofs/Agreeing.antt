@@ -1,5 +1,5 @@
 -- Lists that agree: the shorter begins the longer.
-use Rattle.std.proofs.Common.{◌≡◌, ℕ, ◌<◌, ◌≤◌, max, zero, suc, List, [], ◌∷◌, length, take, slice_get, refl, ap, sym, ◌∙◌, Some, arith}
+use Rattle.std.proofs.Common.{◌≡◌, ℕ, ◌<◌, ◌≤◌, zero, suc, List, [], ◌∷◌, length, take, slice_get, refl, ap, sym, ◌∙◌, Some, arith}
 use Rattle.std.proofs.Math.Seq.{take-length}
 use Rattle.pt_store.specs.Shards.{Begins, Agree, JoinsLists}
 

@@ -75,6 +75,29 @@ impl Indexed {
         Ok(())
     }
 
+    /// Puts a code last here and in another list, or in neither.
+    pub(crate) fn push_both(
+        &mut self,
+        other: &mut Indexed,
+        code: HashedCode,
+    ) -> Result<(), NoMemory>
+        requires room { length self.old < MAX_CODES }
+        requires room_other { length other.old < MAX_CODES }
+        ensures ok { OnOk result (self.new ≡ self.old ++ code ∷ []) }
+        ensures ok_other { OnOk result (other.new ≡ other.old ++ code ∷ []) }
+        ensures err { OnErr result (self.new ≡ self.old) }
+        ensures err_other { OnErr result (other.new ≡ other.old) }
+    {
+        let key = code.try_clone()?;
+        let again = code.try_clone()?;
+        self.codes.reserve(1)?;
+        self.first.reserve(1)?;
+        other.push(again)?;
+        note_first(&mut self.first, key, self.codes.len() as u32).unwrap();
+        self.codes.push_reserved(code);
+        Ok(())
+    }
+
     /// The same codes again, shared.
     pub(crate) fn try_clone(&self, alloc: Global) -> Result<Indexed, NoMemory>
         ensures { IfOk result (λ again. again ≡ self.now) }

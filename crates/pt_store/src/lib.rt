@@ -7,6 +7,9 @@ mod indexed;
 mod laws;
 mod local;
 mod shard;
+mod shard_turn;
+mod shard_turns;
+mod shared;
 mod spread;
 mod traits;
 
@@ -18,10 +21,13 @@ pub use laws::{
 };
 pub use local::{LocalPass, LocalStore};
 pub use shard::{MAX_CODES, Shard};
+pub use shared::{HeldPass, HoldRefused, SharedPass, SharedStore};
 pub use spread::{Mixed, OneShard};
 pub use traits::{Codes, Interner, Sharing, Spread};
 
 #[cfg(test)]
 mod shard_tests;
+#[cfg(test)]
+mod shared_tests;
 #[cfg(test)]
 mod tests;
