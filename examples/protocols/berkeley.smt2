@@ -48,8 +48,8 @@
 (define-fun bad-inside ((i Int) (u Int) (n Int) (e Int)) Bool
   (and (inv i u n e) (bad i u n e)))
 (set-empty bad-inside)
-; A slip: at a read miss the owner keeps its copy exclusive. No start is bad after at most one step, but some are
-; after two. The least one:
+; A slip: at a read miss the owner keeps its copy exclusive. No start leads to a bad state in one step or none, but
+; some do in two. The least one:
 (echo "slip")
 (define-fun broken1 ((i Int) (u Int) (n Int) (e Int)) Bool
   (and (state i u n e)

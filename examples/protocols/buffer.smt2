@@ -70,8 +70,8 @@
 (define-fun bad-inside ((n Int) (e Int) (f Int) (p Int) (c Int)) Bool
   (and (inv n e f p c) (bad n e f p c)))
 (set-empty bad-inside)
-; A slip: a consumer signals the empty slot when it comes, and not when it leaves. No start is bad after at most three
-; steps, but some are after four. The least one:
+; A slip: a consumer signals the empty slot when it comes, and not when it leaves. No start leads to a bad state in at
+; most three steps, but some do in four. The least one:
 (echo "slip")
 (define-fun broken1 ((n Int) (e Int) (f Int) (p Int) (c Int)) Bool
   (and (state n e f p c)

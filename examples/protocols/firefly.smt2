@@ -89,8 +89,8 @@
 (define-fun bad-inside ((i Int) (s Int) (e Int) (d Int)) Bool
   (and (inv i s e d) (bad i s e d)))
 (set-empty bad-inside)
-; A slip: a write hit takes any shared copy for the last one. No start is bad after at most three steps, but some are
-; after four. The least one:
+; A slip: a write hit takes any shared copy for the last one. No start leads to a bad state in at most three steps,
+; but some do in four. The least one:
 (echo "slip")
 (define-fun broken1 ((i Int) (s Int) (e Int) (d Int)) Bool
   (and (state i s e d)

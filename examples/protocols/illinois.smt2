@@ -84,8 +84,8 @@
 (define-fun bad-inside ((i Int) (s Int) (e Int) (d Int)) Bool
   (and (inv i s e d) (bad i s e d)))
 (set-empty bad-inside)
-; A slip: at a read miss an exclusive copy elsewhere stays exclusive. No start is bad after at most two steps, but
-; some are after three. The least one:
+; A slip: at a read miss an exclusive copy elsewhere stays exclusive. No start leads to a bad state in at most two
+; steps, but some do in three. The least one:
 (echo "slip")
 (define-fun broken1 ((i Int) (s Int) (e Int) (d Int)) Bool
   (and (state i s e d)

@@ -64,8 +64,8 @@
 (define-fun bad-inside ((i Int) (s Int) (e Int) (m Int)) Bool
   (and (inv i s e m) (bad i s e m)))
 (set-empty bad-inside)
-; A slip: a read miss leaves an exclusive copy exclusive. No start is bad after at most two steps, but some are after
-; three. The least one:
+; A slip: a read miss leaves an exclusive copy exclusive. No start leads to a bad state in at most two steps, but some
+; do in three. The least one:
 (echo "slip")
 (define-fun broken1 ((i Int) (s Int) (e Int) (m Int)) Bool
   (and (state i s e m)

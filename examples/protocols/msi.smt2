@@ -38,8 +38,8 @@
 (define-fun bad-inside ((i Int) (s Int) (m Int)) Bool
   (and (inv i s m) (bad i s m)))
 (set-empty bad-inside)
-; A slip: a write hit on a shared copy does not make the other shared ones invalid. No start is bad after at most two
-; steps, but some are after three. The least one:
+; A slip: a write hit on a shared copy does not make the other shared ones invalid. No start leads to a bad state in
+; at most two steps, but some do in three. The least one:
 (echo "slip")
 (define-fun broken1 ((i Int) (s Int) (m Int)) Bool
   (and (state i s m)

@@ -9,7 +9,7 @@
 (define-fun start ((p Int) (q Int) (turn Int)) Bool (and (= p 0) (= q 0) (<= 1 turn 2)))
 (define-fun bad ((p Int) (q Int) (turn Int)) Bool (and (state p q turn) (= p 3) (= q 3)))
 ; A step as a relation of the state before and the state after. A round applies it once, under a quantifier, and so
-; makes one copy of the round before and not eight; the relation has six variables.
+; makes one copy of the round before, not one for each of the eight rules; the relation has six variables.
 (define-fun step ((p Int) (q Int) (turn Int) (p2 Int) (q2 Int) (turn2 Int)) Bool
   (or (and (= q2 q)
            (or (and (= p 0) (= p2 1) (= turn2 turn))                         ; the flag goes up
@@ -50,8 +50,8 @@
 (set-empty escape)
 (define-fun bad-inside ((p Int) (q Int) (turn Int)) Bool (and (inv p q turn) (bad p q turn)))
 (set-empty bad-inside)
-; A slip: the turn is given away before the flag goes up, so a flag is up from 2 on. No start is bad after at most
-; five steps, but some are after six. The least one:
+; A slip: the turn is given away before the flag goes up, so a flag is up from 2 on. No start leads to a bad state in
+; at most five steps, but some do in six. The least one:
 (echo "slip")
 (define-fun slip ((p Int) (q Int) (turn Int) (p2 Int) (q2 Int) (turn2 Int)) Bool
   (or (and (= q2 q)

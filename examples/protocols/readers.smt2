@@ -75,8 +75,8 @@
 (define-fun bad-inside ((i Int) (r Int) (w Int) (s Int)) Bool
   (and (inv i r w s) (bad i r w s)))
 (set-empty bad-inside)
-; A slip: every reader that leaves gives the semaphore back. No start is bad after at most three steps, but some are
-; after four. The least one:
+; A slip: every reader that leaves gives the semaphore back. No start leads to a bad state in at most three steps, but
+; some do in four. The least one:
 (echo "slip")
 (define-fun broken1 ((i Int) (r Int) (w Int) (s Int)) Bool
   (and (state i r w s)

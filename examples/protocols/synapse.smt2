@@ -39,8 +39,8 @@
 (define-fun bad-inside ((i Int) (v Int) (d Int)) Bool
   (and (inv i v d) (bad i v d)))
 (set-empty bad-inside)
-; A slip: a read miss takes the line from memory and leaves the dirty copy where it is. No start is bad after at most
-; one step, but some are after two. The least one:
+; A slip: a read miss takes the line from memory and leaves the dirty copy where it is. No start leads to a bad state
+; in one step or none, but some do in two. The least one:
 (echo "slip")
 (define-fun broken1 ((i Int) (v Int) (d Int)) Bool
   (and (state i v d)

@@ -90,7 +90,7 @@
   (and (inv t s a b p q) (bad t s a b p q)))
 (set-empty bad-inside)
 ; A slip: a client that finds nobody waiting or inside, that is t and s the same, goes in at once with ticket t, and t
-; is not counted up. No start is bad after at most one step, but some are after two. The least one:
+; is not counted up. No start leads to a bad state in one step or none, but some do in two. The least one:
 (echo "slip")
 (define-fun both ((t Int) (s Int) (a Int) (b Int) (p Int) (q Int)) Bool (and (= p 2) (= q 2)))
 (define-fun broken1 ((t Int) (s Int) (a Int) (b Int) (p Int) (q Int)) Bool

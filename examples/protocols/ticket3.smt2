@@ -75,8 +75,8 @@
 (define-fun bad-inside ((t Int) (s Int) (a Int) (b Int) (c Int)) Bool
   (and (inv t s a b c) (bad t s a b c)))
 (set-empty bad-inside)
-; A slip: a client takes ticket t in one step and counts t up in another, and may look at s between. No start is bad
-; after at most one step, but some are after two. The least one:
+; A slip: a client takes ticket t in one step and counts t up in another, and may look at s between. No start leads to
+; a bad state in one step or none, but some do in two. The least one:
 (echo "slip")
 (define-fun range ((t Int) (s Int) (a Int) (b Int) (c Int)) Bool
   (and (>= t 0) (>= s 0) (>= a (- 1)) (>= b (- 1)) (>= c (- 1))))
