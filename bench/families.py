@@ -9,6 +9,7 @@ from dataclasses import dataclass
 from typing import Optional
 
 import mona
+import protocols
 
 
 @dataclass
@@ -232,6 +233,22 @@ def diagonals(n):
         yield Instance(question("xy", *both, f"(not {some_multiple('x', 2 ** power)})"), expected)
 
 
+def rounds(n):
+    """Counter systems: does round n backwards add to the round before, and with the slip, does it meet a start?"""
+    for name, (adding, steps) in protocols.KNOWN.items():
+        names, definitions, made = protocols.rounds(name, "round1", n)
+        state = " ".join(names)
+        bound = " ".join(f"({counter} Int)" for counter in names)
+        same = f"(forall ({bound}) (= ({made[n]} {state}) ({made[n - 1]} {state})))"
+        yield Instance(text(*definitions, f"(assert (not {same}))", "(check-sat)"),
+                       "sat" if adding is None or n <= adding else "unsat",
+                       own=text(*definitions, f"(set-equal {made[n]} {made[n - 1]})"))
+        names, definitions, made = protocols.rounds(name, "broken1", n)
+        declared = [f"(declare-const {counter} Int)" for counter in names]
+        yield Instance(text(*definitions, *declared, f"(assert (start {state}))", f"(assert ({made[n]} {state}))",
+                            "(check-sat)"), "sat" if n >= steps else "unsat")
+
+
 FAMILIES = {
     coins2: (10, 20, 40, 80, 160),
     coins3: (5, 10, 20, 40, 80),
@@ -248,6 +265,7 @@ FAMILIES = {
     bounded: (6, 8, 10, 12, 14, 16),
     equal: (10, 20, 40, 80, 160),
     drill: (1, 2, 3, 4, 5),
+    rounds: (1, 2, 3, 4),
 }
 
 if __name__ == "__main__":  # families.py FAMILY SIZE INSTANCE: the script of one question
