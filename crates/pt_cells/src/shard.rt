@@ -1,0 +1,219 @@
+// A shard of set-once cells, and a pass over it.
+ghost use Rattle.std.specs.Prelude.{◌≡◌, ◌+◌, ◌<◌, ◌≤◌, [], length, option_map, position, slice_get, IfOk, IfErr, IfSome, IfNone, OnErr, Ok, Some};
+ghost use Rattle.std.specs.Arc.{arc_value};
+ghost use Rattle.pt_sets.specs.Lists.{code_eq};
+ghost use Rattle.pt_store.specs.Shards.{Begins, JoinsLists};
+ghost use Rattle.pt_cells.specs.Seeing.{IsOf, OneMore, RefusesFull};
+
+use crate::directory::Directory;
+use crate::noted::{compare_all, notes_again};
+use crate::walked::Walked;
+use pt_code::Code;
+use pt_store::{HashedCode, MAX_CODES, NoMemory, Shard};
+use std::alloc::Global;
+use std::marker::Model;
+use std::mem;
+use std::sync::Arc;
+
+/// Why a code was not interned in a shard.
+#[derive(Clone, Copy, Debug, PartialEq, Eq)]
+pub enum CellFault {
+    /// The shard holds as many codes as it may, and none of them is the code.
+    Full,
+    NoMemory,
+}
+
+/// A shard of set-once cells.
+#[derive(Drop)]
+pub struct CellShard<D: Directory> {
+    directory: D,
+    limit: u32,
+}
+
+impl<D: Directory> Model for CellShard<D> {
+    ghost use Rattle.std.specs.Prelude.{◌≤◌};
+    ghost use Rattle.pt_cells.specs.Seeing.{Cells};
+
+    ghost Value = { Cells D };
+
+    ghost view = { λ s. record { directory = s.directory; limit = s.limit } };
+
+    ghost invariant = { λ s. (s.limit ≤ D.size) × (s.limit ≤ 268434432) };
+}
+
+/// What was seen in a shard: the codes of its first cells, in order.
+#[derive(Drop)]
+pub struct CellPass<D: Directory> {
+    notes: D::Notes,
+    walked: Vec<Walked>,
+    codes: Shard,
+}
+
+impl<D: Directory> Model for CellPass<D> {
+    ghost use Rattle.std.specs.Prelude.{◌≡◌, map};
+    ghost use Rattle.pt_cells.specs.Seeing.{Seen};
+
+    ghost Value = { Seen D.Notes };
+
+    ghost view = { λ p. record { notes = p.notes; cells = map (λ w. w.0) p.walked.items; codes = p.codes } };
+
+    ghost invariant = { λ p. map (λ w. w.1) p.walked.items ≡ p.codes };
+}
+
+impl<D: Directory> CellShard<D> {
+    /// A shard whose cells are empty.
+    pub fn new(alloc: Global, limit: u32) -> CellShard<D>
+        requires cells { limit ≤ D.size }
+        requires limit { limit ≤ MAX_CODES }
+        ensures { result.limit ≡ limit }
+    {
+        CellShard {
+            directory: D::new(alloc),
+            limit,
+        }
+    }
+
+    /// How many codes the shard may hold.
+    pub fn limit(&self) -> u32
+        ensures { result ≡ self.now.limit }
+    {
+        self.limit
+    }
+
+    /// A pass that has seen nothing.
+    pub fn pass(&self, alloc: Global) -> Result<CellPass<D>, NoMemory>
+        ensures of { IfOk result (λ pass. IsOf D.fits D.name_at self.now pass) }
+        ensures empty { IfOk result (λ pass. pass.codes ≡ []) }
+    {
+        let codes = Shard::new(alloc)?;
+        Ok(CellPass {
+            notes: self.directory.notes(),
+            walked: Vec::new(alloc),
+            codes,
+        })
+    }
+
+    /// Offers a code to the first cell that the pass has not walked, and says whether the cell shows it.
+    fn step(
+        &self,
+        alloc: Global,
+        pass: &mut CellPass<D>,
+        code: &HashedCode,
+    ) -> Result<bool, NoMemory>
+        requires of { IsOf D.fits D.name_at self.now pass.old }
+        requires room { length pass.old.codes < self.now.limit }
+        ensures of { IsOf D.fits D.name_at self.now pass.new }
+        ensures ok { IfOk result (OneMore code.now pass.old.codes pass.new.codes) }
+        ensures err { OnErr result (pass.new.codes ≡ pass.old.codes) }
+    {
+        pass.walked.reserve(1)?;
+        let position = pass.walked.len();
+        let cell = self.directory.cell(alloc, &mut pass.notes, position)?;
+        let (walked, shown) = Walked::offer(alloc, cell, code)?;
+        let same = shown == *code;
+        pass.codes.push(shown)?;
+        pass.walked.push_reserved(walked);
+        Ok(same)
+    }
+
+    /// The first position of a code in the pass. Where the pass had it not, it walks on until a cell shows the code.
+    ///
+    /// The walk starts at the first cell that the pass has not walked, and takes what each cell shows into the list. So it
+    /// is linear in the cells that other passes filled since, each in the numbers of its code. A code that is there takes no
+    /// memory. No call waits.
+    pub fn intern(
+        &self,
+        alloc: Global,
+        pass: &mut CellPass<D>,
+        code: &HashedCode,
+    ) -> Result<u32, CellFault>
+        requires { IsOf D.fits D.name_at self.now pass.old }
+        ensures kept { IsOf D.fits D.name_at self.now pass.new }
+
+        // The list grows.
+        ensures extends { Begins pass.old.codes pass.new.codes }
+
+        // A code that is there changes nothing.
+        ensures present { IfSome (position (code_eq code.now) pass.old.codes) (λ index. (result ≡ Ok index) × (pass.new ≡ pass.old)) }
+
+        // Another goes last.
+        ensures last { IfNone (position (code_eq code.now) pass.old.codes) (IfOk result (λ index. index + 1 ≡ length pass.new.codes)) }
+        ensures ok { IfOk result (λ index. position (code_eq code.now) pass.new.codes ≡ Some index) }
+
+        // It is refused only where the list is at the limit, or for want of memory.
+        ensures err { IfErr result (RefusesFull self.now.limit pass.new.codes code.now) }
+    {
+        if let Some(index) = pass.find_hashed(code) {
+            return Ok(index);
+        }
+        for position in pass.len()..self.limit {
+            match self.step(alloc, pass, code) {
+                Ok(true) => return Ok(position),
+                Ok(false) => {}
+                Err(_) => return Err(CellFault::NoMemory),
+            }
+        }
+        Err(CellFault::Full)
+    }
+
+    /// A second pass that has seen the same. Linear in the cells that the pass walked, for each of which it takes a byte.
+    pub fn split(&self, alloc: Global, pass: &mut CellPass<D>) -> Result<CellPass<D>, NoMemory>
+        requires { IsOf D.fits D.name_at self.now pass.old }
+        ensures kept { pass.new ≡ pass.old }
+        ensures same { IfOk result (λ other. other ≡ pass.old) }
+    {
+        let codes = pass.codes.split(alloc)?;
+        let walked = notes_again(alloc, &mut pass.walked)?;
+        let notes = self.directory.again(&mut pass.notes);
+        Ok(CellPass {
+            notes,
+            walked,
+            codes,
+        })
+    }
+
+    /// Makes one pass of two, which is the longer. Takes no memory. Linear in the cells that both walked.
+    pub fn join(&self, pass: &mut CellPass<D>, other: CellPass<D>)
+        requires first { IsOf D.fits D.name_at self.now pass.old }
+        requires second { IsOf D.fits D.name_at self.now other }
+        ensures kept { IsOf D.fits D.name_at self.now pass.new }
+        ensures joins { JoinsLists pass.old.codes other.codes pass.new.codes }
+    {
+        let mut other = other;
+        self.directory.compare(&mut pass.notes, &mut other.notes);
+        compare_all(&mut pass.walked, &mut other.walked);
+        if pass.len() < other.len() {
+            mem::swap(pass, &mut other);
+        }
+    }
+}
+
+impl<D: Directory> CellPass<D> {
+    /// How many codes the pass has.
+    pub fn len(&self) -> u32
+        ensures { result ≡ length self.now.codes }
+    {
+        self.codes.len()
+    }
+
+    /// The code at a position.
+    pub fn code(&self, index: u32) -> Option<&Arc<Code>>
+        ensures { option_map (λ code. arc_value code.now) result ≡ slice_get self.now.codes index }
+    {
+        self.codes.code(index)
+    }
+
+    /// The first position of a code.
+    pub fn find(&self, code: &Code) -> Option<u32>
+        ensures { result ≡ position (code_eq code.now) self.now.codes }
+    {
+        self.codes.find(code)
+    }
+
+    /// The first position of a code that has its number.
+    pub fn find_hashed(&self, code: &HashedCode) -> Option<u32>
+        ensures { result ≡ position (code_eq code.now) self.now.codes }
+    {
+        self.codes.find_hashed(code)
+    }
+}
