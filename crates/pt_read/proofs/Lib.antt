@@ -13,3 +13,5 @@ pub mod KeptLaws
 pub mod SoundLaws
 pub mod Elaborating
 pub mod ReadingLaws
+pub mod Keeping
+pub mod Total

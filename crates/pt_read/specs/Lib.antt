@@ -7,3 +7,4 @@ pub mod Reader
 pub mod Kept
 pub mod Defining
 pub mod Lasting
+pub mod Sound

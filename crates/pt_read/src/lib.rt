@@ -6,6 +6,7 @@ mod commands;
 mod context;
 mod declarations;
 mod item_parts;
+pub mod laws;
 mod numerals;
 mod predicates;
 mod reader;

@@ -13,3 +13,4 @@ pub mod Layers
 pub mod Copies
 pub mod Free
 pub mod Keeps
+pub mod Examples
