@@ -14,3 +14,5 @@ pub mod SoundLaws
 pub mod Elaborating
 pub mod ReadingLaws
 pub mod FewNumbers
+pub mod Keeping
+pub mod Total

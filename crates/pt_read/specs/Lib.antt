@@ -8,3 +8,4 @@ pub mod Kept
 pub mod Defining
 pub mod Lasting
 pub mod Numbers
+pub mod Sound

@@ -4,6 +4,7 @@ mod commands;
 mod declarations;
 mod definitions;
 mod kinds;
+mod laws;
 mod limits;
 mod nodes;
 mod outline;

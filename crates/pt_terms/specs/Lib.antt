@@ -14,3 +14,4 @@ pub mod Copies
 pub mod Free
 pub mod Numbers
 pub mod Keeps
+pub mod Examples

@@ -11,6 +11,8 @@ mod copying;
 mod definitions;
 pub mod elaborator;
 pub mod environment;
+#[cfg(test)]
+mod law_tests;
 pub mod laws;
 mod leaves;
 pub mod meaning;
