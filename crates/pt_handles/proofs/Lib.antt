@@ -1,5 +1,6 @@
 pub mod One
 pub mod Lasting
+pub mod Reunited
 pub mod InRow
 pub mod Few
 pub mod Parts

@@ -28,4 +28,6 @@ pub use laws::{
 pub use reads::{output, step};
 
 #[cfg(test)]
+mod shared_tests;
+#[cfg(test)]
 mod tests;

@@ -33,7 +33,7 @@ fn table_of(alloc: Global, ends: &[u32], state: u32, sign: u16) -> Result<Table,
 }
 
 /// The table of {n}: state 0 is empty, state k + 1 has the digits from k on, and the last state is {0}.
-fn number_table(alloc: Global, n: u32) -> Result<Table, Fail> {
+pub(crate) fn number_table(alloc: Global, n: u32) -> Result<Table, Fail> {
     let mut ends = vec![in alloc; 0u32; 2]?;
     for k in 0..32u32 {
         if n >> k == 0 {
