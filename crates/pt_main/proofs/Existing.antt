@@ -1,5 +1,5 @@
 -- Each text has an output.
-use Rattle.std.proofs.Common.{◌≡◌, ◌⊎◌, inl, inr, ℕ, ◌<◌, ◌≤◌, Bool, true, false, List, [], ◌∷◌, ◌++◌, length, refl}
+use Rattle.std.proofs.Common.{◌≡◌, ◌⊎◌, inl, inr, ℕ, Bool, true, false, List, [], ◌∷◌, ◌++◌, length, refl}
 use Rattle.std.proofs.lemmas.Bool.{cases_lt}
 use Rattle.std.specs.Prelude.{Result, Ok, Err, Some}
 use Rattle.pt_formula.specs.declared.node.Position.{Position}
@@ -17,7 +17,7 @@ use Rattle.pt_script.specs.State.{Standing, initial}
 use Rattle.pt_script.specs.Step.{Step, in_scope, is_exit}
 use Rattle.pt_script.specs.Answering.{HasReply, HasRefusal}
 use Rattle.pt_script.specs.Texts.{refusal_line, fault_line, too_long}
-use Rattle.pt_main.specs.Runs.{Turn, GoesOn, HasRun, ComesTo}
+use Rattle.pt_main.specs.Runs.{Turn, GoesOn, HasRun}
 use Rattle.pt_main.specs.Output.{IsAnswered, IsRefused, IsOutput, replies}
 
 -- the laws that are used

@@ -1,7 +1,7 @@
 -- Each command that fits has a reply and a state after it, or a refusal of its own.
-use Rattle.std.proofs.Common.{◌≡◌, ◌⊎◌, ◌↔◌, inl, inr, ℕ, ◌<◌, ◌≤◌, Bool, true, false, List, [], ◌∷◌, length, refl, sym, ap, subst, arith}
+use Rattle.std.proofs.Common.{◌≡◌, ◌⊎◌, ◌↔◌, inl, inr, ℕ, ◌<◌, true, false, List, [], ◌∷◌, length, refl, sym, subst, arith}
 use Rattle.std.proofs.lemmas.Bool.{cases_lt}
-use Rattle.std.specs.Prelude.{Option, Some, None, ℤ, ⊤, codes, decimal, unsigned_abs}
+use Rattle.std.specs.Prelude.{Option, Some, None, ⊤, codes, decimal}
 use Rattle.std.specs.List.{AllByRecursion}
 use Rattle.pt_sets.specs.Words.{Vector}
 use Rattle.pt_sets.specs.Sets.{SameSet}
@@ -27,7 +27,7 @@ use Rattle.pt_script.specs.declared.solution.LeastSolution.{LeastSolution}
 use Rattle.pt_script.specs.declared.solution.LeastSolution.TheVariants.{Narrow, Wide}
 use Rattle.pt_script.specs.State.{Standing}
 use Rattle.pt_script.specs.Texts.{line, truth, value_pairs, model, vectors}
-use Rattle.pt_script.specs.Step.{set_of, roots, conjunction_variables, ConjunctionHolds, values_of, FindsModel, IfNarrow, Says, Replies, success_after, standing_after, with_model, plain_reply, HasSolution, IsAnswered, NeedsModel, IsRefusedItself, IsFine, Step}
+use Rattle.pt_script.specs.Step.{set_of, roots, conjunction_variables, ConjunctionHolds, values_of, IfNarrow, Says, success_after, standing_after, with_model, plain_reply, IsAnswered, NeedsModel, IsRefusedItself, IsFine}
 use Rattle.pt_script.specs.Answering.{HasReply, HasRefusal}
 
 -- the solutions of a formula, over any variables
