@@ -12,3 +12,4 @@ pub mod FirstWide
 pub mod OneStep
 pub mod OneRun
 pub mod Fronts
+pub mod Existing

@@ -5,6 +5,8 @@ ghost use Rattle.pt_main.specs.Ending.{HasRoom};
 ghost use Rattle.pt_main.specs.Output.{IsOutput, IsFrontOf, IsFrontOfOutput};
 
 use pt_eval::refusals_are_exact;
+use pt_read::laws::{commands_that_are_read_fit, scopes_stay_sound};
+use pt_script::laws::commands_have_a_reply_or_a_refusal;
 
 /// Where fewer codes were offered to the pass of a local store than a shard may have, no list is at the limit. So a run
 /// over such a store cannot end with a full shard where the offers before it and its work are together below the limit.
@@ -17,6 +19,16 @@ pub fn outputs_are_one()
     ensures { (text : List ℕ) (bound : ℕ) (one two : List ℕ) (first second : Bool) → IsOutput text bound one first → IsOutput text bound two second → (one ≡ two) × (first ≡ second) }
 {
     refusals_are_exact();
+}
+
+/// A text has an output and a status under each bound: each rest of it has a next command or a refusal, each command that is read
+/// has a reply or a refusal, and each takes one list of the text.
+pub fn texts_have_outputs()
+    ensures { (text : List ℕ) (bound : ℕ) → (out : List ℕ) × (refused : Bool) × IsOutput text bound out refused }
+{
+    scopes_stay_sound();
+    commands_that_are_read_fit();
+    commands_have_a_reply_or_a_refusal();
 }
 
 /// What a run that is cut off has written is a prefix of the output of its text under the same bound.

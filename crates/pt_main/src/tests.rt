@@ -8,6 +8,7 @@ use std::process::Abort;
 use std::test::Fail;
 use std::thread::Threads;
 
+mod laws;
 mod sets;
 
 /// The words of a line, if it is not empty.

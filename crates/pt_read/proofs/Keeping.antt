@@ -1,6 +1,6 @@
 -- An elaborated command keeps the formula well formed, over variables that have been given out.
-use Rattle.std.proofs.Common.{◌≡◌, ◌⊎◌, inl, inr, ℕ, ◌+◌, ◌<◌, ◌≤◌, ◌==◌, nat_le, not, Bool, true, false, ◌||◌, if◌then◌else◌, List, [], ◌∷◌, ◌++◌, length, map, arith, refl, sym, ap, subst, append-nil, append_assoc, ◌∙◌}
-use Rattle.std.specs.Prelude.{Result, Ok, Err, Option, Some, None, ⊤, bytes_eq, codes, nat_lt, ◌^◌, reverse, neg_ℤ, pos, ℤ}
+use Rattle.std.proofs.Common.{◌≡◌, ℕ, ◌+◌, ◌<◌, ◌==◌, nat_le, not, Bool, true, false, ◌||◌, if◌then◌else◌, List, [], ◌∷◌, ◌++◌, length, map, arith, refl, sym, ap, subst, append-nil, append_assoc, ◌∙◌}
+use Rattle.std.specs.Prelude.{Result, Ok, Err, Option, Some, None, ⊤, bytes_eq, codes, nat_lt, ◌^◌, reverse, neg_ℤ, pos}
 use Rattle.std.specs.List.{AllByRecursion, list_all}
 use Rattle.pt_formula.specs.declared.node.Position.{Position}
 use Rattle.pt_formula.specs.declared.TheConstants.{MAX_TRACKS}
@@ -18,14 +18,13 @@ use Rattle.pt_grammar.specs.ItemForms.{items_fault}
 use Rattle.pt_grammar.specs.Verbs.{Row, table, row_in}
 use Rattle.pt_terms.specs.declared.meaning.Meaning.{Meaning}
 use Rattle.pt_terms.specs.declared.meaning.Meaning.TheVariants.{Int, Bool as Truth}
-use Rattle.pt_terms.specs.declared.meaning.Constant.{Constant}
 use Rattle.pt_terms.specs.Elaboration.{Work, Elab, give, refuse, follow, ◌>>=◌, require, fresh, each, variable_form}
 use Rattle.pt_terms.specs.Names.{Use, Constant_of, Defined, find_symbol, is_live, Env}
 use Rattle.pt_terms.specs.Gives.{Grows}
 use Rattle.pt_terms.specs.Sound.{IsMeaningIn, IsEnvIn}
 use Rattle.pt_terms.specs.Terms
 use Rattle.pt_terms.specs.Terms.{term, int_sort, as_bound, numeral, unless_faulty}
-use Rattle.pt_terms.specs.Theory.{truth_of, form_of, nodes_now}
+use Rattle.pt_terms.specs.Theory.{truth_of, nodes_now}
 use Rattle.pt_terms.specs.Keeps.{IsSoundWork, Keeps, IsNodeIn, TermsKeep, ConjunctionsKeep}
 use Rattle.pt_terms.specs.Environment.{outermost}
 use Rattle.pt_read.specs.declared.command.Command.{Command}

@@ -1,29 +1,23 @@
 -- What is left of a text has one answer in each scope, and sound scopes stay sound.
-use Rattle.std.proofs.Common.{◌≡◌, ◌⊎◌, inl, inr, ℕ, zero, suc, ◌<◌, ◌≤◌, Bool, true, false, List, [], ◌∷◌, length, arith, refl, sym, ap, subst, ◌∙◌}
-use Rattle.std.specs.Prelude.{Result, Ok, Err, Option, Some, None, slice_get}
-use Rattle.std.specs.List.{AllByRecursion}
+use Rattle.std.proofs.Common.{◌≡◌, inl, inr, ℕ, zero, suc, ◌<◌, true, length, arith, refl, sym, ap, subst, ◌∙◌}
+use Rattle.std.specs.Prelude.{Result, Ok, Err, Option, Some, None}
 use Rattle.pt_formula.specs.declared.node.Node.TheVariants as node
-use Rattle.pt_formula.specs.declared.TheConstants.{MAX_NODES}
 use Rattle.pt_formula.specs.Formulas.{start as start_formula, node_at, variables_of, contains, IsNode, IsFormula}
-use Rattle.pt_syntax.specs.declared.sexpr.SExpr.{SExpr}
-use Rattle.pt_formula.specs.declared.node.Position.{Position}
 use Rattle.pt_syntax.specs.declared.kinds.ReadRefusal.{ReadRefusal}
 use Rattle.pt_syntax.specs.Lists.{Script, Done, Stops, Command as Reads_list}
 use Rattle.pt_terms.specs.Elaboration.{Work}
 use Rattle.pt_terms.specs.Free.{Nodes, IsWhole, AreTermsOver}
-use Rattle.pt_terms.specs.Gives.{Grows}
 use Rattle.pt_terms.specs.Sound.{AreBelow}
-use Rattle.pt_terms.specs.Keeps.{IsSoundWork, TermsKeep, ConjunctionsKeep}
+use Rattle.pt_terms.specs.Keeps.{TermsKeep, ConjunctionsKeep}
 use Rattle.pt_read.specs.declared.command.Command.{Command}
 use Rattle.pt_read.specs.declared.command.CommandKind.{CommandKind}
 use Rattle.pt_read.specs.declared.command.CommandKind.TheVariants as kind
 use Rattle.pt_read.specs.Scope.{State, initial, after}
 use Rattle.pt_read.specs.Fits.{FitsKind}
-use Rattle.pt_read.specs.Lasting.{IsSound}
 use Rattle.pt_read.specs.Commands.{elaborate}
 use Rattle.pt_read.specs.Reader.{IsNext, IsRefusedWith, OnlyAdds, with_work}
 use Rattle.pt_read.specs.Sound.{IsSoundScope, HasAnswer}
-use Rattle.pt_read.proofs.Fitting.{IsStep, start}
+use Rattle.pt_read.proofs.Fitting.{IsStep}
 use Rattle.pt_read.proofs.FittingWhole.{fits-elaborated}
 use Rattle.pt_read.proofs.Elaborating.{scope-names, scope-conjunction}
 use Rattle.pt_read.proofs.SoundLaws.{sound-grown, sound-after}

@@ -1,5 +1,5 @@
 -- Scopes in which each rest of a text is read, and each command that is read can be answered or refused.
-use Rattle.std.specs.Prelude.{◌≡◌, ◌⊎◌, Option, Some, None}
+use Rattle.std.specs.Prelude.{◌⊎◌, Option}
 use Rattle.pt_formula.specs.Formulas.{IsFormula}
 use Rattle.pt_syntax.specs.declared.kinds.ReadRefusal.{ReadRefusal}
 use Rattle.pt_syntax.specs.Lists.{Script}

@@ -2,3 +2,4 @@ pub mod Joining
 pub mod AskedSets
 pub mod SetTellings
 pub mod Steps
+pub mod Answering

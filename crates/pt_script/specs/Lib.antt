@@ -5,3 +5,5 @@ pub mod Step
 pub mod Asks
 pub mod Sets
 pub mod Refusals
+pub mod Answering
+pub mod Examples

@@ -3,6 +3,9 @@
 
 mod asked;
 mod fault;
+#[cfg(test)]
+mod law_tests;
+pub mod laws;
 mod reply;
 mod session;
 mod solution;

@@ -1,0 +1,13 @@
+use Rattle.pt_main.proofs.Existing.{Laws, has-output}
+use Rattle.pt_main.proofs.laws.texts_have_outputs.Goals as goal
+
+laws : (c : goal.After-commands_have_a_reply_or_a_refusal) → Laws
+laws c = record {
+  first = c.scopes_stay_sound.ensures.initial;
+  read = c.commands_that_are_read_fit.ensures;
+  one = c.commands_have_a_reply_or_a_refusal.ensures.one;
+  after = c.commands_have_a_reply_or_a_refusal.ensures.sound;
+}
+
+pub returns : goal.returns
+returns c = λ text bound. has-output (laws c) text bound
