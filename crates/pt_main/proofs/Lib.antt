@@ -13,3 +13,4 @@ pub mod OneStep
 pub mod OneRun
 pub mod Fronts
 pub mod Existing
+pub mod Works

@@ -28,7 +28,7 @@ one_command c d v w e =
     let pair : ◌≡◌ {A = Command × Work} (c, v) (d, w) = cc in
     (ap (λ (q : Command × Work). q.0) pair, ap (λ (q : Command × Work). q.1) pair)
 
-one_next : (c d : Command) (commands l m : Script) (s new now : State) → IsNext (Some c) commands s l new → IsNext (Some d) commands s m now → (c ≡ d) × (l ≡ m) × (new ≡ now)
+pub one_next : (c d : Command) (commands l m : Script) (s new now : State) → IsNext (Some c) commands s l new → IsNext (Some d) commands s m now → (c ≡ d) × (l ≡ m) × (new ≡ now)
 one_next c d Done l m s new now first second = absurd first
 one_next c d (Stops e) l m s new now first second = absurd first
 one_next c d (Reads_list p items rest) l m s new now (v, reads, left, is) (w, reads', left', is') =

@@ -27,13 +27,21 @@ abbrev pub KnowAnswered : Home → Lists → List ℕ → ℕ → Type 0
 KnowAnswered home lists text bound = (turns : List Turn) × (line : List ℕ) × (refused : Bool) × Ends text bound turns line refused × KnowTurns home lists bound turns
 
 -- The work of the commands up to one that the run comes to: c (n + 2) B, c the number of these commands, n the nodes of
--- the formula at the last of them, and B the bound; 0 without commands. It grows with each command, and that of the
--- script is the last.
+-- the formula at the last of them, and B the bound; 0 without commands. It grows with each command.
+abbrev pub work_at : ℕ → List Turn → State → ℕ
+work_at bound turns scope = (length turns + 1) * (length scope.formula + 2) * bound
+
 abbrev pub IsWork : List ℕ → ℕ → ℕ → Type 0
 IsWork text bound work =
     (work ≡ 0)
-    ⊎ ((turns : List Turn) × (before : Standing) × (scope : State) × (c : Command) × ComesTo text bound turns before scope c
-    × (work ≡ (length turns + 1) * (length scope.formula + 2) * bound))
+    ⊎ ((turns : List Turn) × (before : Standing) × (scope : State) × (c : Command) × ComesTo text bound turns before scope c × (work ≡ work_at bound turns scope))
+
+-- the work of the script: that at the last command to which the run comes
+abbrev pub IsScriptWork : List ℕ → ℕ → ℕ → Type 0
+IsScriptWork text bound work =
+    (turns : List Turn) × (before : Standing) × (scope : State) × (c : Command) × ComesTo text bound turns before scope c
+    × ((others : List Turn) (s : Standing) (t : State) (d : Command) → ComesTo text bound others s t d → length others ≤ length turns)
+    × (work ≡ work_at bound turns scope)
 
 -- so many codes were offered before and after, and no more than the work came in between
 abbrev pub OffersWithin : List ℕ → ℕ → ℕ → ℕ → Type 0

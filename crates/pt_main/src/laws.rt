@@ -1,8 +1,9 @@
-ghost use Rattle.std.specs.Prelude.{◌<◌, ◌≡◌, ℕ, Bool, List};
+ghost use Rattle.std.specs.Prelude.{◌<◌, ◌≤◌, ◌≡◌, ℕ, Bool, List};
 ghost use Rattle.pt_sets.specs.Lists.{Home};
 ghost use Rattle.pt_store.specs.Local.{Size, LocalLists, Owns};
 ghost use Rattle.pt_main.specs.Ending.{HasRoom};
 ghost use Rattle.pt_main.specs.Output.{IsOutput, IsFrontOf, IsFrontOfOutput};
+ghost use Rattle.pt_main.specs.Wanted.{IsWork, IsScriptWork};
 
 use pt_eval::refusals_are_exact;
 use pt_read::laws::{commands_that_are_read_fit, scopes_stay_sound};
@@ -36,4 +37,13 @@ pub fn fronts_are_prefixes()
     ensures { (text : List ℕ) (bound : ℕ) (front out : List ℕ) (refused : Bool) → IsFrontOfOutput text bound front → IsOutput text bound out refused → IsFrontOf front out }
 {
     refusals_are_exact();
+}
+
+/// The work of a command to which a run comes is at most that of the script, which is the work at the last one.
+pub fn work_is_within_that_of_the_script()
+    ensures { (text : List ℕ) (bound work whole : ℕ) → IsWork text bound work → IsScriptWork text bound whole → work ≤ whole }
+{
+    scopes_stay_sound();
+    commands_that_are_read_fit();
+    commands_have_a_reply_or_a_refusal();
 }
