@@ -375,3 +375,35 @@ fn random_tables(rt: HostRuntime) -> Result<(), Fail> {
     }
     Ok(())
 }
+
+/// 1,024 states over 1,024 letters that all lead back to them, in pairs of equal outputs: as many cells as the outputs
+/// are read in parallel from.
+fn pairs(alloc: Global) -> Result<Rows, AllocError>
+    ensures { IfOk result (λ rows. rows.letters ≡ 1024) }
+{
+    let mut rows = Rows {
+        letters: 1024,
+        ends: Vec::new(alloc),
+        outputs: Vec::new(alloc),
+    };
+    for cell in 0..1_048_576u32 {
+        rows.ends.push(cell / 1024)?;
+        rows.outputs.push(cell % 1024 == cell / 2048)?;
+    }
+    Ok(rows)
+}
+
+#[test]
+fn large_table(rt: HostRuntime) -> Result<(), Fail> {
+    let alloc = rt.alloc();
+    let table = table_of(alloc, 10, &pairs(alloc)?)?;
+    let made = reduce(&rt, alloc, &table)?;
+    assert_eq!(rt; made.table().states(), 512);
+    let mut used = vec![in alloc; false; 512]?;
+    for q in 0..table.states() {
+        assert_eq!(rt; made.class(q), made.class(q - q % 2), "at {q}");
+        put(&mut used, made.class(q) as usize);
+    }
+    assert!(rt; !used.contains(&false));
+    Ok(())
+}
