@@ -45,15 +45,14 @@ module _ (p : Component) (in_p : IsComponent p) (connected : IsStronglyConnected
   link-row : (entry q : ℕ) → length (edge_row p entry q) ≡ 2 ^ p.tracks
   link-row entry q = length-map (edges_from p q) (edge_number p (states_in_order p entry)) ∙ length-map-range_with_len (edge_at p q) 0 (2 ^ p.tracks)
 
-  -- rows that decide before the search has ended
-  pub rows-decided : (states more best : List ℕ) (o : Ordering) → first ≡ states ++ more → best ≡ second → o ≢ Equal →
-      IsVerdict (λ i. row_of p (get_or states i 0)) (λ i. row_of p (get_or best i 0)) (length states) o → o ≡ slice_cmp nat_cmp (outputs_part p first) (outputs_part p second)
-  rows-decided states more best o begins is apart verdict =
-      let size = ap length begins ∙ length-append states more in
+  -- rows that decide
+  pub rows-decided : (best : List ℕ) (o : Ordering) → best ≡ second → o ≢ Equal →
+      IsVerdict (λ i. row_of p (get_or first i 0)) (λ i. row_of p (get_or best i 0)) p.states o → o ≡ slice_cmp nat_cmp (outputs_part p first) (outputs_part p second)
+  rows-decided best o is apart verdict =
       verdict-all 0 (row_of p) (row_of p) (2 ^ p.tracks) output-row output-row first second o (first-long ∙ sym second-long)
-      (verdict-more (λ i. row_of p (get_or states i 0)) (λ i. row_of p (get_or best i 0)) (λ i. row_of p (get_or first i 0)) (λ i. row_of p (get_or second i 0)) (length states) (length first) o
-      (omega (arith, size)) apart
-      (λ i h. ap (row_of p) (sym (ap (λ (l : List ℕ). get_or l i 0) begins ∙ get_or-append states more 0 i h)))
+      (verdict-more (λ i. row_of p (get_or first i 0)) (λ i. row_of p (get_or best i 0)) (λ i. row_of p (get_or first i 0)) (λ i. row_of p (get_or second i 0)) p.states (length first) o
+      (let long = first-long in omega (arith, long)) apart
+      (λ i h. refl)
       (λ i h. ap (λ (l : List ℕ). row_of p (get_or l i 0)) is)
       verdict)
 

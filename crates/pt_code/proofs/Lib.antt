@@ -14,3 +14,4 @@ pub mod Leading
 pub mod Answering
 pub mod Bestness
 pub mod Ring
+pub mod Bounding

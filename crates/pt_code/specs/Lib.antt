@@ -4,3 +4,4 @@ pub mod Searching
 pub mod Parts
 pub mod Sides
 pub mod Best
+pub mod Bounding

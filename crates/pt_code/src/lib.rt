@@ -1,6 +1,7 @@
 //! Codes of strongly connected components.
 #![tactic(auto)]
 
+mod bounds;
 mod code;
 mod fault;
 mod least;

@@ -1,12 +1,14 @@
 // Rows of outputs that are compared in the order of a search.
-ghost use Rattle.std.specs.Prelude.{◌≡◌, ◌≢◌, ℕ, ◌<◌, ◌≤◌, false, IsTrue, IfOk, OnOk, All, length, vec_len, slice_index, slice_index_or};
+ghost use Rattle.std.specs.Prelude.{◌≡◌, ◌≢◌, ℕ, ◌+◌, ◌*◌, ◌<◌, ◌≤◌, ◌++◌, List, Some, None, false, IsTrue, IfOk, OnOk, All, length, vec_len, slice_index, slice_index_or};
 ghost use Rattle.std.specs.Ordering.{nat_cmp, is_gt};
 ghost use Rattle.std.specs.Cmp.Lexicographic.{slice_cmp};
 ghost use Rattle.pt_sets.specs.Components.{IsComponent, IsStronglyConnected, states_in_order};
+ghost use Rattle.pt_code.specs.Bounding.{AreBounds};
 ghost use Rattle.pt_code.specs.Component.{component};
 ghost use Rattle.pt_code.specs.Parts.{IsHighs, IsVerdict, row_of, outputs_part};
 ghost use Rattle.pt_code.specs.Searching.{IsNear};
 
+use crate::bounds::Bound;
 use crate::fault::NoMemory;
 use crate::near::Near;
 use crate::order::Order;
@@ -131,19 +133,49 @@ fn compare_at(piece: &Piece, highs: &[bool], best: &Best, place: usize, state: u
     compare_outputs(piece, state, best.order.states[place])
 }
 
-/// How the rows of states compare with those of the best order, where those before a place are the same.
-fn compare_from(piece: &Piece, highs: &[bool], best: &Best, states: &[u32], from: usize) -> Ordering
+/// Whether a search that meets a state at a place meets a high state within the run.
+fn meets_high(bounds: &[Option<Bound>], run: usize, place: usize, state: u32) -> bool
+    requires state { state < length bounds.now }
+    requires place { place ≤ 65536 }
+    ensures { IsTrue result → (b : Bound) × (slice_index_or bounds.now state None ≡ Some b) × (place * b.weight + b.offset < run) }
+{
+    let Some(bound) = bounds[state as usize] else {
+        return false;
+    };
+    place * bound.weight as usize + (bound.offset as usize) < run
+}
+
+/// How the rows of states, with which the order from an entry begins, compare with those of the best order, where those
+/// before a place are the same. Greater as soon as a bound tells that a high state comes within the run.
+fn compare_from(
+    piece: &Piece,
+    highs: &[bool],
+    bounds: &[Option<Bound>],
+    best: &Best,
+    states: &[u32],
+    from: usize,
+) -> Ordering
     requires component { IsComponent (component piece.now) }
+    requires connected { IsStronglyConnected (component piece.now) }
     requires highs { IsHighs (component piece.now) highs.now }
+    requires all { length bounds.now ≡ piece.now.states }
+    requires bounds { AreBounds (component piece.now) highs.now bounds.now }
+    requires best_entry { best.now.entry < piece.now.states }
+    requires best { best.now.order.states.items ≡ states_in_order (component piece.now) best.now.entry }
     requires within { All (λ q. q < piece.now.states) best.now.order.states.items }
     requires run { (n : ℕ) → n < best.now.run → slice_index_or highs.now (slice_index best.now.order.states.items n) false ≡ false }
     requires states { All (λ q. q < piece.now.states) states.now }
     requires few { length states.now ≤ vec_len best.now.order.states }
     requires from { from ≤ length states.now }
     requires same { (i : ℕ) → i < from → row_of (component piece.now) (slice_index states.now i) ≡ row_of (component piece.now) (slice_index best.now.order.states.items i) }
-    ensures { IsVerdict (λ i. row_of (component piece.now) (slice_index states.now i)) (λ i. row_of (component piece.now) (slice_index best.now.order.states.items i)) (length states.now) result }
+    ensures same { result ≡ Ordering.Equal → (i : ℕ) → i < length states.now → row_of (component piece.now) (slice_index states.now i) ≡ row_of (component piece.now) (slice_index best.now.order.states.items i) }
+    ensures apart { (entry : ℕ) (more : List ℕ) → entry < piece.now.states → states_in_order (component piece.now) entry ≡ states.now ++ more → result ≢ Ordering.Equal →
+        IsVerdict (λ i. row_of (component piece.now) (slice_index (states_in_order (component piece.now) entry) i)) (λ i. row_of (component piece.now) (slice_index best.now.order.states.items i)) piece.now.states result }
 {
     for place in from..states.len() {
+        if meets_high(bounds, best.run, place, states[place]) {
+            return Ordering::Greater;
+        }
         let order = compare_at(piece, highs, best, place, states[place]);
         let Ordering::Equal = order else {
             return order;
@@ -153,11 +185,12 @@ fn compare_from(piece: &Piece, highs: &[bool], best: &Best, states: &[u32], from
 }
 
 /// How the outputs in the order from an entry compare with those in the best order. Breadth first, and only as far as they
-/// are the same.
+/// are the same and no bound decides.
 pub(crate) fn compare_rows(
     piece: &Piece,
     near: &Near,
     highs: &[bool],
+    bounds: &[Option<Bound>],
     best: &Best,
     entry: u32,
     order: &mut Order,
@@ -166,6 +199,8 @@ pub(crate) fn compare_rows(
     requires connected { IsStronglyConnected (component piece.now) }
     requires near { IsNear (component piece.now) near.now.starts.items near.now.targets.items }
     requires highs { IsHighs (component piece.now) highs.now }
+    requires all { length bounds.now ≡ piece.now.states }
+    requires bounds { AreBounds (component piece.now) highs.now bounds.now }
     requires run { (n : ℕ) → n < best.now.run → slice_index_or highs.now (slice_index best.now.order.states.items n) false ≡ false }
     requires best_entry { best.now.entry < piece.now.states }
     requires best { best.now.order.states.items ≡ states_in_order (component piece.now) best.now.entry }
@@ -177,7 +212,7 @@ pub(crate) fn compare_rows(
     order.begin(entry)?;
     let mut compared = 0;
     for next in 0..piece.states as usize {
-        let verdict = compare_from(piece, highs, best, &order.states, compared);
+        let verdict = compare_from(piece, highs, bounds, best, &order.states, compared);
         let Ordering::Equal = verdict else {
             return Ok(verdict);
         };

@@ -1,6 +1,13 @@
-use Rattle.std.proofs.Common.{◌≡◌, ℕ, refl, sym, ◌∙◌, arith, below_more, get_or}
+use Rattle.std.proofs.Common.{rules, ◌≡◌, ◌<◌, ◌++◌, ℕ, List, length, length-append, refl, ap, sym, ◌∙◌, arith, below_more, get_or}
+use Rattle.std.specs.Ordering.{nat_cmp}
+use Rattle.std.specs.Cmp.Lexicographic.{slice_cmp}
+use Rattle.std.proofs.Math.ListN.{get_or-append}
+use Rattle.std.proofs.lemmas.List.Elements.{All-get_or}
+use Rattle.pt_sets.specs.Components.{states_in_order}
+use Rattle.pt_sets.proofs.SearchOrder.{order-length}
 use Rattle.pt_code.specs.Component.{component}
 use Rattle.pt_code.specs.Parts.{row_of}
+use Rattle.pt_code.proofs.Bounding.{bound-decides, row-decides}
 use Rattle.pt_code.proofs.Comparing.{even-rows}
 use Rattle.pt_code.proofs.rows.compare_from.Goals as goal
 
@@ -13,5 +20,28 @@ loop-place-preserved c =
     below_more (λ i. row_of p (get_or states i 0) ≡ row_of p (get_or best i 0)) place c.loop-place.invariant
     (even-rows (row_of p (get_or states place 0)) (row_of p (get_or best place 0)) (sym c.compare_at-order.ensures ∙ c.in-Equal.is))
 
-pub returns : goal.returns
-returns c = record { same = λ even i h. c.loop-place.invariant i (let past = c.loop-place-test.false in omega arith); apart = λ apart. absurd (apart refl) }
+pub returns-clause-same : goal.returns-clause-same
+returns-clause-same c even i h = c.loop-place.invariant i (let past = c.loop-place-test.false in omega arith)
+
+pub meets_high-requires-clause-place : goal.meets_high-requires-clause-place
+meets_high-requires-clause-place c =
+    let early = c.loop-place-test.true in
+    let few = c.requires.few in
+    let best = ap length c.requires.best ∙ order-length (component c.args.piece.now) c.requires.component c.args.best.now.entry c.requires.best_entry c.requires.connected in
+    omega (arith, early, few, best, c.args.best.now.order.states.ok.0, c.requires.component.few_states)
+
+pub returns-then-meets_high-clause-apart : goal.returns-then-meets_high-clause-apart
+returns-then-meets_high-clause-apart c entry more in_e begins apart =
+    let p = component c.args.piece.now in
+    let (b, is_b, soon) = c.meets_high.ensures c.if-meets_high.true in
+    bound-decides p c.requires.component c.requires.connected entry c.args.best.now.entry in_e c.requires.best_entry c.args.states.now more c.args.best.now.order.states.items begins c.requires.best
+    c.args.highs.now c.requires.highs c.args.bounds.now c.requires.bounds c.args.best.now.run c.loop-place.place b c.loop-place-test.true is_b soon c.requires.run
+
+pub returns-in_default : goal.returns-in_default
+returns-in_default c = record {
+  same = λ even. absurd (c.in_default.not-Equal even);
+  apart = λ entry more in_e begins apart.
+      let p = component c.args.piece.now in
+      row-decides p c.requires.component c.requires.connected entry c.args.best.now.entry in_e c.requires.best_entry c.args.states.now more c.args.best.now.order.states.items begins c.requires.best
+      c.loop-place.place c.compare_at-order.result c.loop-place-test.true c.loop-place.invariant c.compare_at-order.ensures apart;
+}

@@ -39,7 +39,12 @@ compare_from-verdict-requires c =
     let within : All (λ q. q < c.args.piece.now.states) order = All-by (λ q. q < c.args.piece.now.states) order (Met-within p c.args.entry c.requires.component c.requires.entry order c.loop-next.next met) in
     record {
       component = c.requires.component;
+      connected = c.requires.connected;
       highs = c.requires.highs;
+      all = c.requires.all;
+      bounds = c.requires.bounds;
+      best_entry = c.requires.best_entry;
+      best = c.requires.best;
       within = subst (All (λ q. q < c.args.piece.now.states)) (sym c.requires.best)
           (All-by (λ q. q < c.args.piece.now.states) (states_in_order p c.args.best.now.entry) (search_order-within p c.requires.component c.args.best.now.entry c.args.piece.now.states c.requires.best_entry));
       run = c.requires.run;
@@ -152,8 +157,8 @@ returns-in_default-clause-order c =
     let p = component c.args.piece.now in
     let (more, begins) = c.loop-next.invariant.begins in
     rows-decided p c.requires.component c.requires.connected c.args.entry c.args.best.now.entry c.requires.entry c.requires.best_entry
-    c.deref.result.now more c.args.best.now.order.states.items c.compare_from-verdict.result
-    (begins ∙ ap (λ (l : List ℕ). l ++ more) (sym c.deref.ensures.value)) c.requires.best c.in_default.not-Equal c.compare_from-verdict.ensures
+    c.args.best.now.order.states.items c.compare_from-verdict.result c.requires.best c.in_default.not-Equal
+    (c.compare_from-verdict.ensures.apart c.args.entry more c.requires.entry (begins ∙ ap (λ (l : List ℕ). l ++ more) (sym c.deref.ensures.value)) c.in_default.not-Equal)
 
 pub returns-clause-order : goal.returns-clause-order
 returns-clause-order c =
