@@ -227,9 +227,9 @@ fn best_of(alloc: Global, piece: &Piece) -> Result<Best, NoMemory>
 ///
 /// A breadth-first search numbers the states from each entry in turn, and stops where it is greater than the best one: rows
 /// of outputs are compared first, in the order of the search and without writing them, and a state with a row that is not a
-/// least one decides where the best order has least rows; where all rows are the same, edges are compared side by side in
-/// both searches. The code is written once. So the cost is near linear in the edges where states differ in what is near
-/// them; at worst it is states times edges. Memory: 4 bytes for each different near edge, about 30 for each state, and a set
+/// least one decides where the best order has least rows, as soon as a bound on its place tells that it will come; where all
+/// rows are the same, edges are compared side by side in both searches. The code is written once. So the cost is near linear in the edges where states differ in what is near
+/// them; at worst it is states times edges. Memory: 4 bytes for each different near edge, about 42 for each state, and a set
 /// of the exits.
 pub fn least_code(alloc: Global, piece: &Piece) -> Result<Coded, NoMemory>
     requires component { IsComponent (component piece.now) }

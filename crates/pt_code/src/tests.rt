@@ -258,15 +258,18 @@ fn plain_code(
     Ok(numbers)
 }
 
-/// A ring by letter 0, whose other edges and outputs are random.
+/// A ring by letter 0, whose other edges and outputs are random. The more rare an output is, the more rows are equal; all
+/// are where `rare` is 1.
 fn random_ring(
     alloc: Global,
     seed: &mut u32,
     tracks: u32,
     letters: usize,
     states: u32,
+    rare: u32,
 ) -> Result<Piece, NoMemory>
-    requires { 0 < states }
+    requires states { 0 < states }
+    requires rare { 0 < rare }
     ensures { IfOk result (λ piece. piece.tracks ≡ tracks) }
 {
     let (mut outputs, mut edges) = (Vec::new(alloc), Vec::new(alloc));
@@ -281,7 +284,7 @@ fn random_ring(
                 },
                 entry: random % 2,
             };
-            outputs.push(random % 7 == 0)?;
+            outputs.push(random % rare == 1)?;
             edges.push(if letter == 0 {
                 Edge::Near(after(state, states))
             } else if random % 4 == 0 {
@@ -320,15 +323,33 @@ fn assert_least(rt: &impl Abort, alloc: Global, piece: &Piece, letters: usize) -
     Ok(())
 }
 
+// Rings with exits over up to two tracks; a third of them have equal rows, and over no track those are the same after each
+// turn of the ring.
 #[test]
 fn random_rings(rt: HostRuntime) -> Result<(), Fail> {
     let alloc = rt.alloc();
     let mut seed = 3u32;
-    for turn in 0..60u32 {
-        let states = 1 + turn % 6;
-        assert_least(&rt, alloc, &random_ring(alloc, &mut seed, 0, 1, states)?, 1)?;
-        assert_least(&rt, alloc, &random_ring(alloc, &mut seed, 1, 2, states)?, 2)?;
-        assert_least(&rt, alloc, &random_ring(alloc, &mut seed, 2, 4, states)?, 4)?;
+    for turn in 0..700u32 {
+        let states = 1 + turn % 11;
+        let rare = 1 + turn % 3 * 8;
+        assert_least(
+            &rt,
+            alloc,
+            &random_ring(alloc, &mut seed, 0, 1, states, rare)?,
+            1,
+        )?;
+        assert_least(
+            &rt,
+            alloc,
+            &random_ring(alloc, &mut seed, 1, 2, states, rare)?,
+            2,
+        )?;
+        assert_least(
+            &rt,
+            alloc,
+            &random_ring(alloc, &mut seed, 2, 4, states, rare)?,
+            4,
+        )?;
     }
     Ok(())
 }
