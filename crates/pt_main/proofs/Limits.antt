@@ -1,5 +1,5 @@
 -- A run gives out few variable numbers, and pushes few levels.
-use Rattle.std.proofs.Common.{◌≡◌, ℕ, ◌+◌, ◌*◌, ◌<◌, ◌≤◌, ◌^◌, List, length, arith, ap, subst, sym, ◌∙◌, refl}
+use Rattle.std.proofs.Common.{◌≡◌, inl, inr, ℕ, ◌+◌, ◌*◌, ◌<◌, ◌≤◌, ◌^◌, List, length, arith, ap, subst, sym}
 use Rattle.std.specs.Prelude.{Some}
 use Rattle.pt_syntax.specs.Lists.{Script, script}
 use Rattle.pt_read.specs.declared.command.Command.{Command}
