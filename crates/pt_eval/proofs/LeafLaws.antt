@@ -1,9 +1,10 @@
 -- Automata of leaves: of True, False and atoms, by their normal forms.
-use Rattle.std.proofs.Common.{◌≡◌, ℕ, ◌≤◌, true, false, Bool, List, [], length, map, refl, ap, sym, subst, ◌∙◌, Result, Ok, Err}
+use Rattle.std.proofs.Common.{◌≡◌, inl, inr, ℕ, ◌≤◌, arith, true, false, Bool, List, [], length, map, refl, ap, sym, subst, ◌∙◌, Result, Ok, Err}
 use Rattle.std.specs.Prelude.{ℤ, pos, IfOk, IfErr}
+use Rattle.std.proofs.lemmas.Bool.{cases_lt}
 use Rattle.std.proofs.lemmas.List.{length-map}
 use Rattle.pt_sets.specs.Sets.{SameSet}
-use Rattle.pt_sets.specs.Automata.{Automaton, SetOfState}
+use Rattle.pt_sets.specs.Automata.{Automaton, SetOfState, IsReduced}
 use Rattle.pt_sets.specs.Costs.{CostWithin, SameResidual}
 use Rattle.pt_sets.proofs.Counting.{SameSet-sym, SameSet-trans, residual-equivalence}
 use Rattle.pt_handles.specs.declared.fault.TableFault.{TableFault}
@@ -21,6 +22,16 @@ use Rattle.pt_eval.proofs.CostLaws.{within-moved, states-moved, residual-moved, 
 
 pub few-states : (n : Normal) (states B : ℕ) → ResidualsAre n states → ResidualsWithin n B → states ≤ B
 few-states n states B is within = number-within (SameResidual (length n.coefficients) (NormalSet n)) (length n.coefficients) states B (residual-equivalence (length n.coefficients) (NormalSet n)) is within
+
+-- the table of an atom has each residual once
+pub reduced-atom : (n : Normal) (a : Automaton) → IsAtomTable n a → IsReduced a
+reduced-atom n a is q r below-q below-r same = elim (cases_lt q r) [
+  | inl less ↦ absurd (is.once q r less below-r same)
+  | inr no-less ↦ elim (cases_lt r q) [
+    | inl more ↦ absurd (is.once r q more below-q (SameSet-sym a.tracks (SetOfState a q) (SetOfState a r) same))
+    | inr no-more ↦ omega (arith, no-less, no-more)
+  ]
+]
 
 -- at a leaf equal values are equal residuals
 abbrev pub IsLeaf : Tree → Type 0

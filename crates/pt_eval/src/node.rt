@@ -1,5 +1,6 @@
 // Evaluation of one node, from the outcomes of its children.
 ghost use Rattle.std.specs.Prelude.{◌≡◌, ◌+◌, ◌<◌, ◌≤◌, length, IfOk, IfErr, IfSome, IfNone};
+ghost use Rattle.pt_sets.specs.Automata.{IsReduced};
 ghost use Rattle.pt_sets.specs.Lists.{Extends};
 ghost use Rattle.pt_formula.specs.declared.node.Node.TheVariants.{Not as NotNode, Exists as ExistsNode};
 ghost use Rattle.pt_formula.specs.Formulas.{node_at, op_node, tree_of};
@@ -13,7 +14,7 @@ use pt_formula::laws::{
     trees_are_made_of_those_of_the_children, truth_depends_on_free_variables_alone,
 };
 use pt_formula::{Formula, Node, NodeId, Op, Var};
-use pt_handles::{Handle, TableFault, adopt};
+use pt_handles::{Handle, TableFault, adopt, adopt_reduced};
 use pt_product::complement;
 use pt_store::{Codes, Interner, StoreFault};
 use pt_tables::Table;
@@ -57,6 +58,40 @@ fn settle<I: Interner, R: Threads + Sync>(
         Ok(table) => {
             table.is_automaton();
             match adopt(rt, alloc, store, pass, &table, 0) {
+                Ok(handle) => Ok(Outcome::Known(handle)),
+                Err(fault) => Err(fault),
+            }
+        }
+        Err(TableFault::States { bound: _ }) => Ok(Outcome::Costly),
+        Err(TableFault::NoMemory) => Err(StoreFault::NoMemory),
+    }
+}
+
+/// The same where the automaton is reduced as it is made.
+fn settle_reduced<I: Interner>(
+    alloc: Global,
+    store: &I,
+    pass: &mut I::Pass,
+    formula: &Formula,
+    bound: u32,
+    id: NodeId,
+    made: Result<Table, TableFault>,
+) -> Result<Outcome, StoreFault>
+    requires owned { I.owns store.now pass.old }
+    requires below { IsCheapBelow formula.now bound id }
+    requires ok { IfOk made (λ table. IsTableOf (tree_of formula.now id) bound table) }
+    requires err { IfErr made (RefusesTree (tree_of formula.now id) bound) }
+    requires reduced { IfOk made IsReduced }
+    ensures kept { I.owns store.now pass.new }
+    ensures extends { Extends (I.Pass.lists pass.old) (I.Pass.lists pass.new) }
+    ensures ok { IfOk result (IsResult I.Pass.home (I.Pass.lists pass.new) formula.now bound id) }
+    ensures err { IfErr result (RefusesWhere (λ i. id ≡ i) formula.now bound I.Pass.home (I.limit_of store.now) (I.Pass.lists pass.new)) }
+    ensures offers { I.Pass.offered pass.new ≤ I.Pass.offered pass.old + bound }
+{
+    match made {
+        Ok(table) => {
+            table.is_automaton();
+            match adopt_reduced(alloc, store, pass, &table, 0) {
                 Ok(handle) => Ok(Outcome::Known(handle)),
                 Err(fault) => Err(fault),
             }
@@ -209,11 +244,11 @@ pub(crate) fn evaluate_node<I: Interner, R: Threads + Sync>(
     let (op, a, b) = match formula.node(id) {
         Node::True => {
             let made = truth_solutions(alloc, true, bound);
-            return settle(rt, alloc, store, pass, formula, bound, id, made);
+            return settle_reduced(alloc, store, pass, formula, bound, id, made);
         }
         Node::False => {
             let made = truth_solutions(alloc, false, bound);
-            return settle(rt, alloc, store, pass, formula, bound, id, made);
+            return settle_reduced(alloc, store, pass, formula, bound, id, made);
         }
         Node::Atom {
             kind,
@@ -221,7 +256,7 @@ pub(crate) fn evaluate_node<I: Interner, R: Threads + Sync>(
             constant,
         } => {
             let made = atom_solutions(alloc, *kind, terms.as_slice(), *constant, bound);
-            return settle(rt, alloc, store, pass, formula, bound, id, made);
+            return settle_reduced(alloc, store, pass, formula, bound, id, made);
         }
         Node::Not(a) => {
             return evaluate_not(rt, alloc, store, pass, formula, bound, outcomes, id, *a);

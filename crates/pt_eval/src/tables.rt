@@ -1,5 +1,6 @@
 // The automata of the solutions of nodes.
 ghost use Rattle.std.specs.Prelude.{◌≡◌, ◌<◌, ◌≤◌, length, map, IfOk, IfErr};
+ghost use Rattle.pt_sets.specs.Automata.{IsReduced};
 ghost use Rattle.pt_atoms.specs.Atoms.{IsNormal, IsModulus};
 ghost use Rattle.pt_atoms.specs.Tables.{IsAtomTable, ResidualsWithin, ResidualsAbove};
 ghost use Rattle.pt_formula.specs.Forms.{AreTerms};
@@ -31,6 +32,7 @@ fn form_table(alloc: Global, form: &Normal, bound: u32) -> Result<Table, TableFa
     requires few { bound ≤ 65536 }
     ensures table { IfOk result (λ table. IsAtomTable form.now table) }
     ensures few { IfOk result (λ table. table.states ≤ bound) }
+    ensures reduced { IfOk result IsReduced }
     ensures within { IfOk result (λ table. ResidualsWithin form.now bound) }
     ensures above { IfErr result (RefusesForm form.now bound) }
 {
@@ -46,6 +48,7 @@ pub(crate) fn truth_solutions(alloc: Global, value: bool, bound: u32) -> Result<
     requires some { 0 < bound }
     requires few { bound ≤ 65536 }
     ensures ok { IfOk result (λ table. IsTableOf (truth_tree value) bound table) }
+    ensures reduced { IfOk result IsReduced }
     ensures err { IfErr result (RefusesTree (truth_tree value) bound) }
 {
     let form = Normal {
@@ -81,6 +84,7 @@ pub(crate) fn atom_solutions(
     requires some { 0 < bound }
     requires few { bound ≤ 65536 }
     ensures ok { IfOk result (λ table. IsTableOf (AtomTree kind terms.now constant) bound table) }
+    ensures reduced { IfOk result IsReduced }
     ensures err { IfErr result (RefusesTree (AtomTree kind terms.now constant) bound) }
 {
     solutions_of_an_atom_are_its_set();

@@ -46,8 +46,8 @@ pub fn adopt<R: Threads + Sync, I: Interner>(
     adopt_reduced(alloc, store, pass, reduced.table(), class)
 }
 
-/// A known handle with the set of a state of a reduced table.
-fn adopt_reduced<I: Interner>(
+/// A known handle with the set of a state of a reduced table: `adopt` without reducing it.
+pub fn adopt_reduced<I: Interner>(
     alloc: Global,
     store: &I,
     pass: &mut I::Pass,

@@ -14,7 +14,7 @@ mod pieces;
 mod reaching;
 mod reads;
 
-pub use adoption::adopt;
+pub use adoption::{adopt, adopt_reduced};
 pub use compare::same;
 pub use expansion::expand;
 pub use fault::{OpFault, TableFault};
