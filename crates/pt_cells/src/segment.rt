@@ -1,5 +1,5 @@
 // A segment of set-once cells.
-ghost use Rattle.std.specs.Prelude.{◌≡◌, ◌<◌, IfOk, IfSome, Some, slice_get};
+ghost use Rattle.std.specs.Prelude.{◌≡◌, ◌<◌, IfOk, IfSome, Some, length, slice_get};
 ghost use Rattle.once_cell.specs.Once.{cell_name};
 
 use once_cell::race::{Note, OnceBox};
@@ -25,8 +25,10 @@ impl<const N: usize> Model for Segment<N> {
 }
 
 impl<const N: usize> Segment<N> {
-    /// A segment whose cells are empty.
-    pub fn new(alloc: Global) -> Result<Segment<N>, NoMemory> {
+    /// A segment of N cells, which are empty.
+    pub fn new(alloc: Global) -> Result<Segment<N>, NoMemory>
+        ensures { IfOk result (λ s. length s ≡ N) }
+    {
         let mut cells = Vec::with_capacity(alloc, N)?;
         for _ in 0..N {
             cells.push(OnceBox::new(alloc))?;
