@@ -8,7 +8,7 @@ ghost use Rattle.pt_refine.specs.Partitions.{IsPartition, IsUnmarked};
 ghost use Rattle.pt_refine.specs.Dealing.{AreChains, AreRowsOf};
 
 use crate::chains::{Chains, add, empty_rows};
-use crate::keys::{Classes, by_outputs};
+use crate::keys::{CELLS_FOR_THREADS, Classes, by_outputs};
 use crate::partition::Partition;
 use pt_tables::Table;
 use std::alloc::{AllocError, Global};
@@ -89,7 +89,7 @@ pub(crate) fn stable_classes<R: Threads + Sync>(
     ensures { IfOk result (λ c. IsStable table.now c.numbers.items c.count) }
 {
     let letters = table.letters();
-    let first = by_outputs(rt, alloc, table)?;
+    let first = by_outputs(rt, alloc, table, CELLS_FOR_THREADS)?;
     let mut partition = partition_of(alloc, &first)?;
     let chains = Chains::of(alloc, table)?;
     let mut rows = empty_rows(alloc, letters)?;

@@ -13,7 +13,7 @@ use std::thread::Threads;
 
 /// From how many cells on, states times letters, keys are computed in several threads: each call starts threads, which
 /// costs more than the keys of a smaller table.
-const CELLS_FOR_THREADS: usize = 1 << 20;
+pub(crate) const CELLS_FOR_THREADS: usize = 1 << 24;
 
 /// A class for each state, numbered from 0 on.
 #[derive(Drop)]
@@ -112,11 +112,12 @@ fn output_keys_in_parallel<R: Threads + Sync>(
         .collect(rt, alloc)
 }
 
-/// The keys of all states, in several threads where the table is large.
+/// The keys of all states, in several threads where the table has so many cells or more.
 fn keys_of<R: Threads + Sync>(
     rt: &R,
     alloc: Global,
     table: &Table,
+    cells_for_threads: usize,
     from: usize,
     count: usize,
 ) -> Result<Vec<u64>, AllocError>
@@ -125,18 +126,19 @@ fn keys_of<R: Threads + Sync>(
     ensures len { IfOk result (λ keys. length keys.items ≡ table.now.states) }
     ensures keys { IfOk result (λ keys. (q : ℕ) → q < table.now.states → slice_index keys.items q ≡ binary (λ i. output_of table.now q (from + i)) count) }
 {
-    if table.states() as usize * table.letters() < CELLS_FOR_THREADS {
+    if table.states() as usize * table.letters() < cells_for_threads {
         output_keys(alloc, table, from, count)
     } else {
         output_keys_in_parallel(rt, alloc, table, from, count)
     }
 }
 
-/// The classes of equal outputs.
+/// The classes of equal outputs, which are read in several threads where the table has so many cells or more.
 pub(crate) fn by_outputs<R: Threads + Sync>(
     rt: &R,
     alloc: Global,
     table: &Table,
+    cells_for_threads: usize,
 ) -> Result<Classes, AllocError>
     ensures classes { IfOk result (λ c. Separates table.now.states (SameOutputs table.now (2 ^ table.now.tracks)) (ToldBy table.now) c.numbers.items c.count) }
     ensures few { IfOk result (λ c. c.count ≤ table.now.states) }
@@ -147,7 +149,7 @@ pub(crate) fn by_outputs<R: Threads + Sync>(
     let mut from = 0;
     while from < letters {
         let count = (letters - from).min(64);
-        let keys = keys_of(rt, alloc, table, from, count)?;
+        let keys = keys_of(rt, alloc, table, cells_for_threads, from, count)?;
         classes = split(alloc, &classes.numbers, &keys)?;
         from += count;
     }

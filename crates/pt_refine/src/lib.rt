@@ -56,7 +56,7 @@ impl Reduced {
 /// from some number on. Parts are split by marking states in place, as Valmari and Lehtinen do ("Efficient minimization
 /// of DFAs with partial transition functions", 2008). Time: edges times the logarithm of the states, and letters times
 /// states. Memory: one number for each edge, and while a class splits others one for each edge into it. Threads are
-/// started only where the table has 2^20 cells (states times letters) or more, once for each 64 signs, to read its
+/// started only where the table has 2^24 cells (states times letters) or more, once for each 64 signs, to read its
 /// outputs.
 pub fn reduce<R: Threads + Sync>(rt: &R, alloc: Global, table: &Table) -> Result<Reduced, NoMemory>
     ensures reduction { IfOk result (IsReductionOf table.now) }

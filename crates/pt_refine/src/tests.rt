@@ -376,34 +376,36 @@ fn random_tables(rt: HostRuntime) -> Result<(), Fail> {
     Ok(())
 }
 
-/// 1,024 states over 1,024 letters that all lead back to them, in pairs of equal outputs: as many cells as the outputs
-/// are read in parallel from.
+/// 256 states over 128 letters that all lead back to them, in pairs of equal outputs: those of a pair have their one sign
+/// at the number of the pair, so that two keys of 64 signs are needed to tell all pairs apart.
 fn pairs(alloc: Global) -> Result<Rows, AllocError>
-    ensures { IfOk result (λ rows. rows.letters ≡ 1024) }
+    ensures { IfOk result (λ rows. rows.letters ≡ 128) }
 {
     let mut rows = Rows {
-        letters: 1024,
+        letters: 128,
         ends: Vec::new(alloc),
         outputs: Vec::new(alloc),
     };
-    for cell in 0..1_048_576u32 {
-        rows.ends.push(cell / 1024)?;
-        rows.outputs.push(cell % 1024 == cell / 2048)?;
+    for cell in 0..32_768u32 {
+        rows.ends.push(cell / 128)?;
+        rows.outputs.push(cell % 128 == cell / 256)?;
     }
     Ok(rows)
 }
 
+/// Outputs are read on the caller and in several threads.
 #[test]
-fn large_table(rt: HostRuntime) -> Result<(), Fail> {
+fn outputs_in_pairs(rt: HostRuntime) -> Result<(), Fail> {
     let alloc = rt.alloc();
-    let table = table_of(alloc, 10, &pairs(alloc)?)?;
-    let made = reduce(&rt, alloc, &table)?;
-    assert_eq!(rt; made.table().states(), 512);
-    let mut used = vec![in alloc; false; 512]?;
-    for q in 0..table.states() {
-        assert_eq!(rt; made.class(q), made.class(q - q % 2), "at {q}");
-        put(&mut used, made.class(q) as usize);
+    let table = table_of(alloc, 7, &pairs(alloc)?)?;
+    for cells_for_threads in [usize::MAX, 32_769, 32_768, 0] {
+        let made = keys::by_outputs(&rt, alloc, &table, cells_for_threads)?;
+        assert_eq!(rt; made.count, 128);
+        for q in 0..256usize {
+            assert_eq!(rt; made.numbers.get(q), Some(&((q / 2) as u32)), "at {q}");
+        }
     }
-    assert!(rt; !used.contains(&false));
+    let made = reduce(&rt, alloc, &table)?;
+    assert_eq!(rt; made.table().states(), 128);
     Ok(())
 }
