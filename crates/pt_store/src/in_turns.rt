@@ -59,7 +59,7 @@ impl<'a, R: Wait + Sync, S: Spread + Send + Sync> Interner for InTurns<'a, R, S>
         pass: &mut SharedPass<S>,
         code: Arc<Code>,
     ) -> Result<Place, StoreFault> {
-        Err(StoreFault::NoMemory)
+        pass.offer(self.rt, self.store, code)
     }
 }
 
