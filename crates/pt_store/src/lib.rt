@@ -3,6 +3,7 @@
 
 mod fault;
 mod hashed;
+mod in_turns;
 mod indexed;
 mod laws;
 mod local;
@@ -15,6 +16,7 @@ mod traits;
 
 pub use fault::{JoinRefused, NoMemory, StoreFault};
 pub use hashed::HashedCode;
+pub use in_turns::InTurns;
 pub use laws::{
     agreeing_lists_begin_one_another, first_positions_stay, full_lists_stay_full,
     lists_are_joined_shard_by_shard,
@@ -25,6 +27,8 @@ pub use shared::{HeldPass, HoldRefused, SharedPass, SharedStore};
 pub use spread::{Mixed, OneShard};
 pub use traits::{Codes, Interner, Sharing, Spread};
 
+#[cfg(test)]
+mod in_turns_tests;
 #[cfg(test)]
 mod shard_tests;
 #[cfg(test)]
