@@ -1,7 +1,9 @@
 pub mod TreeLaws
 pub mod EntryLaws
+pub mod MadeNodes
 pub mod Unions
 pub mod TruthLaws
+pub mod OddnessLaws
 pub mod Sorted
 pub mod TermSums
 pub mod Wide

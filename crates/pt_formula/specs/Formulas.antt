@@ -88,6 +88,13 @@ made n at f =
     else if nat_le MAX_NODES (length f) then Err Nodes
     else Ok (length f, f ++ (n, at) ∷ [])
 
+-- g is f with this node, number i, at its end
+pub record IsMade (n : Node) (at : Position) (f g : List (Node × Position)) (i : ℕ) : Type 0 where
+  pub formula : IsFormula g
+  pub number : i ≡ length f
+  pub nodes : g ≡ f ++ (n, at) ∷ []
+  pub tree : tree_of g i ≡ node_tree (tree_of f) n
+
 abbrev pub contains : ℕ → List ℕ → Bool
 contains v us = list_any (λ u. v == u) us
 

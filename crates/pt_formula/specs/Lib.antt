@@ -5,3 +5,4 @@ pub mod Truth
 pub mod Formulas
 pub mod Entries
 pub mod Costs
+pub mod Oddness
