@@ -1,5 +1,5 @@
 -- The numbers that the best order gives the states.
-use Rattle.std.proofs.Common.{◌≡◌, ℕ, ◌<◌, List, Bool, length, ap, sym, ◌∙◌, subst, get_or, arith}
+use Rattle.std.proofs.Common.{◌≡◌, ℕ, ◌<◌, List, length, subst}
 use Rattle.pt_sets.specs.Components.{Component, IsComponent, IsStronglyConnected, states_in_order}
 use Rattle.pt_code.specs.Coding.{numbers_from}
 use Rattle.pt_code.specs.Searching.{IsNumbered}

@@ -11,11 +11,9 @@ use Rattle.pt_sets.proofs.ReadBack.{bool-cases}
 use Rattle.std.proofs.Math.ListN.{get_or-append}
 use Rattle.pt_sets.specs.Components.{Component, IsComponent, IsStronglyConnected, first_places, near_states, edges_from, states_in_order}
 use Rattle.pt_sets.proofs.SearchOrder.{first_places-append, order-closed, order-length}
-use Rattle.pt_code.specs.Bounding.{Bounded, IsBound, AreBounds, IsByWay}
+use Rattle.pt_code.specs.Bounding.{Bounded, IsBound, AreBounds, IsByWay, IsBySome, nothing}
 use Rattle.pt_code.specs.declared.bounds.Bound.{Bound}
-use Rattle.std.specs.declared.option.Option.{Option}
-use Rattle.std.specs.Prelude.{None, Some}
-use Rattle.std.proofs.lemmas.List.{get_or_default}
+use Rattle.std.proofs.lemmas.List.{get_or_default, get_or_past}
 use Rattle.pt_code.specs.Parts.{IsHighs, IsVerdict, row_of}
 use Rattle.pt_code.specs.Searching.{successors, visit_one, visit_all}
 use Rattle.pt_code.proofs.Deciding.{at-order}
@@ -144,9 +142,41 @@ bounded-by_way p in_p connected highs g widest q j w o in_j bounded entry n in_e
     let (m, in_m, soon, high) = bounded entry m' in_e in_m' (is' ∙ ap (λ (r : ℕ). get_or (successors p r) j 0) at) in
     (m, in_m, further m m' n g j w o soon' soon, high)
 
+-- the last part of a sum that is small is small
+last-part : (x o n : ℕ) → n ≡ x + o → n < 65536 → o < 65536
+last-part x o n is small = omega arith
+
 -- a high state is met where it stands
 pub bounded-high : (p : Component) (highs : List Bool) (q : ℕ) → get_or highs q false ≡ true → Bounded p highs q 1 0
 bounded-high p highs q high entry n in_e in_n at = (n, in_n, omega arith, ap (λ (r : ℕ). get_or highs r false) at ∙ high)
+
+-- so high states have bounds of their own
+pub own-are : (p : Component) (highs : List Bool) (bounds : List Bound) → length bounds ≡ length highs → ((q : ℕ) → q < length bounds → get_or bounds q nothing ≡ cond (get_or highs q false) (record { weight = 1; offset = 0 }) nothing) → AreBounds p highs bounds
+own-are p highs bounds all own = record { each = each; high = high }
+  where
+    one : Bound
+    one = record { weight = 1; offset = 0 }
+
+    high : (q : ℕ) → get_or highs q false ≡ true → get_or bounds q nothing ≡ one
+    high q is_high =
+        elim (cases_lt q (length bounds)) [
+          | inl inside ↦ own q inside ∙ ap (λ b. cond b one nothing) is_high
+          | inr past ↦ let none = get_or_past highs q false (omega (arith, all, past)) in absurd (cc (none, is_high))
+        ]
+
+    low : (q : ℕ) → get_or highs q false ≡ false → get_or bounds q nothing ≡ nothing
+    low q is_low =
+        elim (cases_lt q (length bounds)) [
+          | inl inside ↦ own q inside ∙ ap (λ b. cond b one nothing) is_low
+          | inr past ↦ get_or_past bounds q nothing (omega (arith, past))
+        ]
+
+    each : (q : ℕ) → IsBound p highs q (get_or bounds q nothing)
+    each q =
+        elim (bool-cases (get_or highs q false)) [
+          | inl hit ↦ subst (IsBound p highs q) (sym (high q hit)) (λ _. bounded-high p highs q hit)
+          | inr miss ↦ subst (IsBound p highs q) (sym (low q miss)) (λ small. absurd (omega (arith, small)))
+        ]
 
 -- the first place at which a test holds
 first-place : (test : ℕ → Bool) (n : ℕ) → ((i : ℕ) × (i < n) × (test i ≡ true) × ((j : ℕ) → j < i → test j ≡ false)) ⊎ ((j : ℕ) → j < n → test j ≡ false)
@@ -186,36 +216,60 @@ high-decides p in_p connected highs is_highs entry other in_e in_o run m in_m ea
           }
     ]
 
--- the bound for a state is the one that was known, or that by way of a successor
+-- the bound for a state is the one that was known, or a lesser one by way of a successor
 pub sweep-step : (p : Component) → IsComponent p → IsStronglyConnected p → (highs : List Bool) (g : ℕ) → ((q : ℕ) → q < p.states → length (successors p q) ≤ g) →
-    (q : ℕ) (bounds slice : List (Option Bound)) (row : List ℕ) (own best : Option Bound) → q < length bounds → row ≡ successors p q → slice ≡ bounds → AreBounds p highs bounds → own ≡ get_or bounds q own →
-    (best ≡ own) ⊎ ((place : ℕ) × (b : Bound) × (place < length row) × (get_or slice (get_or row place 0) None ≡ Some b) × IsByWay b g place best) → AreBounds p highs (set bounds q best)
-sweep-step p in_p connected highs g widest q bounds slice row own best in_q is_row is_slice bounded is_own is_best r =
-    elim (cases_eq r q) [
-      | inl same ↦
-          let at : get_or (set bounds q best) r None ≡ best = ap (λ (i : ℕ). get_or (set bounds q best) i None) same ∙ get_or-set_same bounds q best None in_q in
-          λ b is. subst (λ (i : ℕ). Bounded p highs i b.weight b.offset) (sym same) (now b (sym at ∙ is))
-      | inr apart ↦ λ b is. bounded r b (sym (get_or-set_other bounds q r best None apart) ∙ is)
-    ]
+    (q : ℕ) (bounds slice : List Bound) (row : List ℕ) (own best : Bound) → q < length bounds → row ≡ successors p q → slice ≡ bounds → AreBounds p highs bounds → own ≡ get_or bounds q own →
+    (best ≡ own) ⊎ ((best.offset < own.offset) × (best.offset < 65536 → IsBySome slice row (length row) g best)) → AreBounds p highs (set bounds q best)
+sweep-step p in_p connected highs g widest q bounds slice row own best in_q is_row is_slice bounded is_own is_best = record { each = each; high = high }
   where
+    own-is : own ≡ get_or bounds q nothing
+    own-is = is_own ∙ get_or_default bounds q own nothing in_q
+
+    here : (r : ℕ) → r ≡ q → get_or (set bounds q best) r nothing ≡ best
+    here r same = ap (λ (i : ℕ). get_or (set bounds q best) i nothing) same ∙ get_or-set_same bounds q best nothing in_q
+
     now : IsBound p highs q best
     now =
         elim is_best [
-          | inl still ↦ λ b is. bounded q b (sym (get_or_default bounds q own None in_q) ∙ sym is_own ∙ sym still ∙ is)
+          | inl still ↦ subst (IsBound p highs q) (sym (still ∙ own-is)) (bounded.each q)
           | inr way ↦
-              let (place, b, in_place, is_b, by) = way in
+              λ small.
+              let (place, in_place, by) = way.1 small in
+              let next = get_or (successors p q) place 0 in
+              let behind = get_or bounds next nothing in
               let in_row : place < length (successors p q) = subst (λ (l : List ℕ). place < length l) is_row in_place in
-              let there : get_or bounds (get_or (successors p q) place 0) None ≡ Some b = ap (λ (l : List (Option Bound)). get_or l (get_or (successors p q) place 0) None) (sym is_slice) ∙ ap (λ (l : List ℕ). get_or slice (get_or l place 0) None) (sym is_row) ∙ is_b in
-              let through = bounded-by_way p in_p connected highs g widest q place b.weight b.offset in_row (bounded (get_or (successors p q) place 0) b there) in
-              λ c is_c.
-              let same : by.0 ≡ c = cc (by.1, is_c) in
-              subst (λ (d : Bound). Bounded p highs q d.weight d.offset) same
-              (subst (λ (w : ℕ). Bounded p highs q w by.0.offset) (sym by.2) (subst (λ (o : ℕ). Bounded p highs q (b.weight * g) o) (sym by.3) through))
+              let there : get_or slice (get_or row place 0) nothing ≡ behind = ap (λ (l : List Bound). get_or l (get_or row place 0) nothing) is_slice ∙ ap (λ (l : List ℕ). get_or bounds (get_or l place 0) nothing) is_row in
+              let by' : IsByWay behind g place best = subst (λ (b : Bound). IsByWay b g place best) there by in
+              let known = bounded.each next (last-part (behind.weight * (place + 1)) behind.offset best.offset by'.1 small) in
+              let through = bounded-by_way p in_p connected highs g widest q place behind.weight behind.offset in_row known in
+              subst (λ (w : ℕ). Bounded p highs q w best.offset) (sym by'.0) (subst (λ (o : ℕ). Bounded p highs q (behind.weight * g) o) (sym by'.1) through)
+        ]
+
+    each : (r : ℕ) → IsBound p highs r (get_or (set bounds q best) r nothing)
+    each r =
+        elim (cases_eq r q) [
+          | inl same ↦ subst (IsBound p highs r) (sym (here r same)) (subst (λ (i : ℕ). IsBound p highs i best) (sym same) now)
+          | inr apart ↦ subst (IsBound p highs r) (sym (get_or-set_other bounds q r best nothing apart)) (bounded.each r)
+        ]
+
+    high : (r : ℕ) → get_or highs r false ≡ true → get_or (set bounds q best) r nothing ≡ record { weight = 1; offset = 0 }
+    high r is_high =
+        elim (cases_eq r q) [
+          | inl same ↦
+              let mine : own ≡ record { weight = 1; offset = 0 } = own-is ∙ bounded.high q (ap (λ (i : ℕ). get_or highs i false) (sym same) ∙ is_high) in
+              elim is_best [
+                | inl still ↦ here r same ∙ still ∙ mine
+                | inr way ↦ let none : own.offset ≡ 0 = ap (λ (b : Bound). b.offset) mine in let less = way.0 in absurd (omega (arith, none, less))
+              ]
+          | inr apart ↦ get_or-set_other bounds q r best nothing apart ∙ bounded.high r is_high
         ]
 
 -- a state has no more successors than there are states
 pub successors-few : (p : Component) → IsComponent p → (q : ℕ) → length (successors p q) ≤ p.states
 successors-few p in_p q = order-short p.states (successors p q) (near_states (edges_from p q)) refl (successors-within p in_p q)
+
+soon-small : (x o run : ℕ) → x + o < run → run ≤ 65536 → o < 65536
+soon-small x o run soon few = omega arith
 
 -- an order that begins with states, and the best one
 module _ (p : Component) (in_p : IsComponent p) (connected : IsStronglyConnected p) (entry other : ℕ) (in_e : entry < p.states) (in_o : other < p.states)
@@ -230,11 +284,14 @@ module _ (p : Component) (in_p : IsComponent p) (connected : IsStronglyConnected
       omega (arith, long, size)
 
   -- a bound that lies within the run decides
-  pub bound-decides : (highs : List Bool) → IsHighs p highs → (bounds : List (Option Bound)) → AreBounds p highs bounds → (run place : ℕ) (b : Bound) → place < length states → get_or bounds (get_or states place 0) None ≡ Some b → place * b.weight + b.offset < run →
+  pub bound-decides : (highs : List Bool) → IsHighs p highs → (bounds : List Bound) → AreBounds p highs bounds → (run place : ℕ) → run ≤ p.states → place < length states →
+      place * (get_or bounds (get_or states place 0) nothing).weight + (get_or bounds (get_or states place 0) nothing).offset < run →
       ((n : ℕ) → n < run → get_or highs (get_or best n 0) false ≡ false) →
       IsVerdict (λ i. row_of p (get_or (states_in_order p entry) i 0)) (λ i. row_of p (get_or best i 0)) p.states Greater
-  bound-decides highs is_highs bounds bounded run place b in_place is_b soon low =
-      let (m, in_m, near, high) = bounded (get_or states place 0) b is_b entry place in_e (omega (arith, begun-inside, in_place)) (begun-at place in_place) in
+  bound-decides highs is_highs bounds bounded run place few in_place soon low =
+      let b = get_or bounds (get_or states place 0) nothing in
+      let small : b.offset < 65536 = soon-small (place * b.weight) b.offset run soon (omega (arith, few, in_p.few_states)) in
+      let (m, in_m, near, high) = bounded.each (get_or states place 0) small entry place in_e (omega (arith, begun-inside, in_place)) (begun-at place in_place) in
       subst (λ (l : List ℕ). IsVerdict (λ i. row_of p (get_or (states_in_order p entry) i 0)) (λ i. row_of p (get_or l i 0)) p.states Greater) (sym is_best)
       (high-decides p in_p connected highs is_highs entry other in_e in_o run m in_m (omega (arith, near, soon)) (λ n h. ap (λ (l : List ℕ). get_or highs (get_or l n 0) false) (sym is_best) ∙ low n h) high)
 

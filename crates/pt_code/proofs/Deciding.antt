@@ -1,5 +1,5 @@
 -- Two codes of one component are compared by their rows of outputs, and then by what stands behind them.
-use Rattle.std.proofs.Common.{◌≡◌, ◌≢◌, ℕ, ◌+◌, ◌*◌, ◌^◌, ◌<◌, ◌≤◌, List, ◌++◌, length, refl, ap, sym, ◌∙◌, arith, get_or, length-append}
+use Rattle.std.proofs.Common.{◌≡◌, ◌≢◌, ℕ, ◌+◌, ◌*◌, ◌^◌, ◌<◌, List, ◌++◌, length, refl, ap, sym, ◌∙◌, arith, get_or, length-append}
 use Rattle.std.specs.List.{flat_map}
 use Rattle.std.specs.Ordering.{nat_cmp, ordering_then}
 use Rattle.std.specs.Cmp.Lexicographic.{slice_cmp}
@@ -7,7 +7,6 @@ use Rattle.std.specs.declared.cmp.Ordering.{Ordering}
 use Rattle.std.specs.declared.cmp.Ordering.TheVariants.{Less, Equal, Greater}
 use Rattle.std.proofs.lemmas.List.{length-map}
 use Rattle.std.proofs.lemmas.List.FromFn.{length-map-range_with_len}
-use Rattle.std.proofs.Math.ListN.{get_or-append}
 use Rattle.pt_sets.specs.Components.{Component, IsComponent, IsStronglyConnected, bit, output_at, edge_at, edge_number, outputs_from, edges_from, states_in_order, exits_in_order, code_from}
 use Rattle.pt_sets.proofs.SearchOrder.{order-length}
 use Rattle.pt_sets.proofs.Isomorphic.{search_order-within}

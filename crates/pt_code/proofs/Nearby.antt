@@ -1,5 +1,5 @@
 -- Searches along successors.
-use Rattle.std.proofs.Common.{◌≡◌, inl, inr, ℕ, zero, suc, ◌+◌, ◌-◌, ◌<◌, ◌≤◌, true, false, Bool, not, cond, ◌||◌, List, [], ◌∷◌, ◌++◌, take, drop, length, refl, ap, sym, ◌∙◌, subst, arith, get_or, drop-cons, length-append, append_assoc, add-one}
+use Rattle.std.proofs.Common.{◌≡◌, inl, inr, ℕ, ◌+◌, ◌-◌, ◌<◌, ◌≤◌, true, false, Bool, not, cond, ◌||◌, List, [], ◌∷◌, ◌++◌, take, drop, length, refl, ap, sym, ◌∙◌, subst, arith, get_or, length-append, append_assoc}
 use Rattle.std.specs.Prelude.{◌==◌, All, slice_range}
 use Rattle.std.specs.List.{filter, flat_map, range_with_len, list_any}
 use Rattle.std.proofs.lemmas.Bool.{cases_lt, cases_eq}
@@ -10,12 +10,12 @@ use Rattle.std.proofs.lemmas.List.Folds.{list_any-append}
 use Rattle.std.proofs.lemmas.List.FromFn.{length-range_with_len, get_or-range_with_len}
 use Rattle.std.proofs.Math.Seq.{drop-append_seam, get_or-append_seam}
 use Rattle.std.proofs.lemmas.List.{get_or_append_left}
-use Rattle.pt_sets.specs.Components.{Component, IsComponent, IsStronglyConnected, first_places, near_states, edges_from, states_in_order}
+use Rattle.pt_sets.specs.Components.{Component, IsComponent, IsStronglyConnected, first_places, near_states, edges_from}
 use Rattle.pt_sets.proofs.Mapping.{AllOf, AllOf-first_places}
 use Rattle.pt_sets.proofs.Members.{In-AllOf, In-get_or}
 use Rattle.pt_sets.proofs.Isomorphic.{near_states-within, edges_from-within}
 use Rattle.pt_sets.proofs.SearchOrder.{order-length}
-use Rattle.pt_code.specs.Searching.{IsNear, successors, visit_one, visit_all}
+use Rattle.pt_code.specs.Searching.{AreRows, IsNear, row_at, successors, visit_one, visit_all}
 use Rattle.pt_code.proofs.Parts.{flat_map-more, flat_map-split, take-front}
 use Rattle.pt_code.proofs.Queue.{Met, Met-end, Met-step, Met-within, first_places-visits}
 
@@ -164,3 +164,18 @@ module _ (p : Component) (in_p : IsComponent p) (connected : IsStronglyConnected
 pub All-successors : (p : Component) → IsComponent p → (q room : ℕ) (row : List ℕ) → row ≡ successors p q → room ≡ p.states → All (λ r. r < room) row
 All-successors p in_p q room row is same =
     subst (λ (l : List ℕ). All (λ r. r < room) l) (sym is) (subst (λ (n : ℕ). All (λ r. r < n) (successors p q)) (sym same) (All-by (λ r. r < p.states) (successors p q) (successors-within p in_p q)))
+
+-- and stand in rows
+pub near-rows : (p : Component) → IsComponent p → (starts targets : List ℕ) → IsNear p starts targets → (room : ℕ) → room ≡ p.states → AreRows room starts targets
+near-rows p in_p starts targets near room same = subst (λ (n : ℕ). AreRows n starts targets) (sym same) (record {
+  all = near.all;
+  rise = near-rise p starts targets near;
+  end = near-end p starts targets near;
+  within = λ q h. All-successors p in_p q p.states (row_at starts targets q) (near-row p starts targets near q h) refl;
+})
+
+-- the row of the state that a search comes to
+pub met-row : (p : Component) → IsComponent p → IsStronglyConnected p → (entry : ℕ) → entry < p.states → (starts targets : List ℕ) → IsNear p starts targets →
+    (order : List ℕ) (n : ℕ) → Met p entry order n → n < p.states → row_at starts targets (get_or order n 0) ≡ successors p (get_or order n 0)
+met-row p in_p connected entry in_range starts targets near order n met in_n =
+    near-row p starts targets near (get_or order n 0) (Met-state p in_p connected entry in_range order n (get_or order n 0) 0 met in_n refl).1

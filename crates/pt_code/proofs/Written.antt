@@ -1,12 +1,11 @@
 -- Edges that are written state by state.
-use Rattle.std.proofs.Common.{◌≡◌, ℕ, ◌+◌, ◌^◌, ◌<◌, List, ◌++◌, map, take, drop, length, ap, sym, ◌∙◌, get_or, append_assoc}
+use Rattle.std.proofs.Common.{◌≡◌, ℕ, ◌+◌, ◌^◌, ◌<◌, List, ◌++◌, map, take, length, ap, sym, ◌∙◌, get_or, append_assoc}
 use Rattle.std.specs.List.{flat_map}
 use Rattle.std.proofs.lemmas.List.FromFn.{length-map-range_with_len}
 use Rattle.indexmap.specs.IndexSet.{insert_all}
 use Rattle.pt_sets.specs.declared.Exit.{Exit}
 use Rattle.pt_sets.specs.Components.{Component, first_places, far_exits, exit_eq, edges_from, edge_at, exits_in_order}
 use Rattle.pt_sets.proofs.ReadBack.{exit_eq-same, exit_eq-refl}
-use Rattle.pt_sets.proofs.SearchOrder.{first_places-append}
 use Rattle.pt_code.specs.Parts.{number_in, edges_part}
 use Rattle.pt_code.proofs.Exits.{first_places-inserts, inserts-more}
 use Rattle.pt_code.proofs.Parts.{flat_map-more, written-more}

@@ -5,3 +5,4 @@ pub mod Parts
 pub mod Sides
 pub mod Best
 pub mod Bounding
+pub mod Shapes

@@ -1,7 +1,7 @@
 // Bounds on the places where searches meet high states.
-ghost use Rattle.std.specs.Prelude.{◌≡◌, ◌+◌, ◌*◌, ◌<◌, ◌≤◌, ◌⊎◌, ⊤, ℕ, true, false, None, Some, All, IfOk, IsTrue, MatchOption, length, slice_index, slice_index_or, vec_len};
+ghost use Rattle.std.specs.Prelude.{◌≡◌, ◌<◌, ◌≤◌, ◌⊎◌, ℕ, All, IfOk, cond, length, vec_len};
 ghost use Rattle.pt_sets.specs.Components.{Component, IsComponent, IsStronglyConnected};
-ghost use Rattle.pt_code.specs.Bounding.{AreBounds, IsByWay};
+ghost use Rattle.pt_code.specs.Bounding.{AreBounds, IsByWay, IsBySome, nothing};
 ghost use Rattle.pt_code.specs.Component.{component};
 ghost use Rattle.pt_code.specs.Searching.{IsNear, successors};
 
@@ -10,66 +10,57 @@ use crate::near::Near;
 use crate::piece::Piece;
 use std::alloc::Global;
 
-/// Where a search meets a state at place n, it meets a high state at a place of at most `n * weight + offset`.
+/// Where a search meets a state at place n, it meets a high state at a place of at most `n * weight + offset`. An offset of
+/// 65,536 tells nothing: no order has so many places.
 #[derive(Clone, Copy)]
 pub(crate) struct Bound {
     pub(crate) weight: u32,
     pub(crate) offset: u32,
 }
 
-/// The bound for a state by way of its successor at a place among its successors. None where it is above 65,536: no order
-/// has so many places.
-fn by_way(behind: Bound, width: usize, place: usize) -> Option<Bound>
+/// The bound that tells nothing.
+fn unbounded() -> Bound
+    ensures { result ≡ nothing }
+{
+    Bound {
+        weight: 0,
+        offset: 65536,
+    }
+}
+
+/// The bound for a state by way of its successor at a place among its successors, where it tells something.
+fn by_way(behind: Bound, width: usize, place: usize) -> Bound
     requires width { width ≤ 65536 }
     requires place { place < 65536 }
-    ensures { MatchOption result ⊤ (λ b. (b.weight ≡ behind.weight * width) × (b.offset ≡ behind.weight * (place + 1) + behind.offset)) }
+    ensures { result.offset < 65536 → IsByWay behind width place result }
 {
     let weight = behind.weight as usize * width;
     let offset = behind.weight as usize * (place + 1) + behind.offset as usize;
     if weight > 65536 || offset > 65536 {
-        return None;
+        return unbounded();
     }
-    Some(Bound {
+    Bound {
         weight: weight as u32,
         offset: offset as u32,
-    })
-}
-
-/// Whether a bound is new, or has a lesser offset.
-fn is_less(bound: Option<Bound>, other: Option<Bound>) -> bool {
-    let Some(bound) = bound else {
-        return false;
-    };
-    let Some(other) = other else {
-        return true;
-    };
-    bound.offset < other.offset
+    }
 }
 
 /// The better of the bound for a state and that by way of one of its successors.
-fn better_of(own: Option<Bound>, behind: Option<Bound>, width: usize, place: usize) -> Option<Bound>
+fn better_of(own: Bound, behind: Bound, width: usize, place: usize) -> Bound
     requires width { width ≤ 65536 }
     requires place { place < 65536 }
-    ensures { (result ≡ own) ⊎ ((b : Bound) × (behind ≡ Some b) × IsByWay b width place result) }
+    ensures { (result ≡ own) ⊎ ((result.offset < own.offset) × (result.offset < 65536 → IsByWay behind width place result)) }
 {
-    let Some(behind) = behind else {
-        return own;
-    };
-    let Some(bound) = by_way(behind, width, place) else {
-        return own;
-    };
-    if is_less(Some(bound), own) {
-        return Some(bound);
-    }
-    own
+    let bound = by_way(behind, width, place);
+    if bound.offset < own.offset { bound } else { own }
 }
 
 /// The best of the bound for a state and those by way of its successors.
-fn best_of(own: Option<Bound>, row: &[u32], bounds: &[Option<Bound>], width: usize) -> Option<Bound>
+fn best_of(own: Bound, row: &[u32], bounds: &[Bound], width: usize) -> Bound
     requires within { All (λ q. q < length bounds.now) row.now }
     requires few { length row.now ≤ 65536 }
     requires width { width ≤ 65536 }
-    ensures { (result ≡ own) ⊎ ((place : ℕ) × (b : Bound) × (place < length row.now) × (slice_index_or bounds.now (slice_index row.now place) None ≡ Some b) × IsByWay b width place result) }
+    ensures { (result ≡ own) ⊎ ((result.offset < own.offset) × (result.offset < 65536 → IsBySome bounds.now row.now (length row.now) width result)) }
 {
     let mut best = own;
     for (place, state) in row.iter().enumerate() {
@@ -85,7 +76,7 @@ fn sweep(
     near: &Near,
     highs: &[bool],
     width: usize,
-    bounds: &mut Vec<Option<Bound>>,
+    bounds: &mut Vec<Bound>,
 ) -> bool
     requires component { IsComponent (component piece.now) }
     requires connected { IsStronglyConnected (component piece.now) }
@@ -102,8 +93,7 @@ fn sweep(
         let state = piece.states - 1 - step;
         let own = bounds[state as usize];
         let best = best_of(own, near.of(state), bounds, width);
-        let less = is_less(best, own);
-        changed = changed || less;
+        changed = changed || best.offset < own.offset;
         bounds[state as usize] = best;
     }
     changed
@@ -133,21 +123,21 @@ fn width_of(piece: &Piece, near: &Near) -> usize
 }
 
 /// The bound for a state by itself.
-fn own_bound(high: bool) -> Option<Bound>
-    ensures { MatchOption result ⊤ (λ b. (high ≡ true) × (b.weight ≡ 1) × (b.offset ≡ 0)) }
+fn own_bound(high: bool) -> Bound
+    ensures { result ≡ cond high (record { weight = 1; offset = 0 }) nothing }
 {
     if high {
-        Some(Bound {
+        Bound {
             weight: 1,
             offset: 0,
-        })
+        }
     } else {
-        None
+        unbounded()
     }
 }
 
 /// The bounds for high states.
-fn own_bounds(alloc: Global, highs: &[bool]) -> Result<Vec<Option<Bound>>, NoMemory>
+fn own_bounds(alloc: Global, highs: &[bool]) -> Result<Vec<Bound>, NoMemory>
     ensures all { IfOk result (λ bounds. vec_len bounds ≡ length highs.now) }
     ensures bounds { IfOk result (λ bounds. (p : Component) → AreBounds p highs.now bounds.items) }
 {
@@ -167,7 +157,7 @@ pub(crate) fn bounds_of(
     piece: &Piece,
     near: &Near,
     highs: &[bool],
-) -> Result<Vec<Option<Bound>>, NoMemory>
+) -> Result<Vec<Bound>, NoMemory>
     requires component { IsComponent (component piece.now) }
     requires connected { IsStronglyConnected (component piece.now) }
     requires near { IsNear (component piece.now) near.now.starts.items near.now.targets.items }

@@ -1,24 +1,23 @@
 // The least code of a component.
-ghost use Rattle.std.specs.Prelude.{◌≡◌, ◌+◌, ◌<◌, ℕ, false, IfOk, OnOk, IsTrue, length, slice_index, slice_index_or, vec_len};
+ghost use Rattle.std.specs.Prelude.{◌≡◌, ◌+◌, ◌<◌, IfOk, OnOk, length, slice_index, vec_len};
 ghost use Rattle.std.specs.Arc.{arc_value};
 ghost use Rattle.std.specs.Ordering.{nat_cmp};
 ghost use Rattle.std.specs.Cmp.Lexicographic.{slice_cmp};
 ghost use Rattle.pt_sets.specs.Components.{IsComponent, IsStronglyConnected, code_from, states_in_order};
-ghost use Rattle.pt_code.specs.Bounding.{AreBounds};
 ghost use Rattle.pt_code.specs.Component.{component};
 ghost use Rattle.pt_code.specs.Coding.{IsCoding, IsomorphicComponentsHaveOneCode, CodesReadBackAreTheirComponents, numbers_from};
 ghost use Rattle.pt_code.specs.Best.{IsBest};
-ghost use Rattle.pt_code.specs.Parts.{IsHighs, Leads, outputs_part};
-ghost use Rattle.pt_code.specs.Searching.{IsNear};
+ghost use Rattle.pt_code.specs.Parts.{Leads, outputs_part};
+ghost use Rattle.pt_code.specs.Shapes.{IsShape};
 
-use crate::bounds::{Bound, bounds_of};
 use crate::code::Code;
 use crate::fault::NoMemory;
 use crate::links::{Side, compare_links};
-use crate::near::{Near, near_of, search};
+use crate::near::search;
 use crate::order::Order;
 use crate::piece::Piece;
-use crate::rows::{Best, compare_rows, highs_of, is_flat, run_of};
+use crate::rows::{Best, compare_rows, run_of};
+use crate::shape::{Shape, shape_of};
 use crate::writing::write_code;
 use std::alloc::Global;
 use std::cmp::Ordering;
@@ -58,43 +57,11 @@ impl Coded {
     }
 }
 
-/// What is known of a piece before its entries are compared: the successors of its states, which of its states are high,
-/// whether none is, and how soon searches meet a high one.
-#[derive(Drop)]
-struct Shape {
-    near: Near,
-    highs: Vec<bool>,
-    flat: bool,
-    bounds: Vec<Option<Bound>>,
-}
-
-fn shape_of(alloc: Global, piece: &Piece) -> Result<Shape, NoMemory>
-    requires component { IsComponent (component piece.now) }
-    requires connected { IsStronglyConnected (component piece.now) }
-    ensures near { IfOk result (λ shape. IsNear (component piece.now) shape.near.starts.items shape.near.targets.items) }
-    ensures highs { IfOk result (λ shape. IsHighs (component piece.now) shape.highs.items) }
-    ensures flat { IfOk result (λ shape. IsTrue shape.flat → (q : ℕ) → q < piece.now.states → slice_index_or shape.highs.items q false ≡ false) }
-    ensures all { IfOk result (λ shape. vec_len shape.bounds ≡ piece.now.states) }
-    ensures bounds { IfOk result (λ shape. AreBounds (component piece.now) shape.highs.items shape.bounds.items) }
-{
-    let near = near_of(alloc, piece)?;
-    let highs = highs_of(alloc, piece)?;
-    let flat = is_flat(&highs);
-    let bounds = bounds_of(alloc, piece, &near, &highs)?;
-    Ok(Shape {
-        near,
-        highs,
-        flat,
-        bounds,
-    })
-}
-
 /// Makes an entry the best one.
 fn set_best(piece: &Piece, shape: &Shape, entry: u32, best: &mut Best) -> Result<(), NoMemory>
     requires component { IsComponent (component piece.now) }
     requires connected { IsStronglyConnected (component piece.now) }
-    requires near { IsNear (component piece.now) shape.now.near.starts.items shape.now.near.targets.items }
-    requires highs { IsHighs (component piece.now) shape.now.highs.items }
+    requires shape { IsShape (component piece.now) shape.now }
     requires entry { entry < piece.now.states }
     requires room { vec_len best.old.order.places ≡ piece.now.states }
     ensures entry { OnOk result (best.new.entry ≡ entry) }
@@ -116,11 +83,7 @@ fn compare_states(
 ) -> Result<Ordering, NoMemory>
     requires component { IsComponent (component piece.now) }
     requires connected { IsStronglyConnected (component piece.now) }
-    requires near { IsNear (component piece.now) shape.now.near.starts.items shape.now.near.targets.items }
-    requires highs { IsHighs (component piece.now) shape.now.highs.items }
-    requires flat { IsTrue shape.now.flat → (q : ℕ) → q < piece.now.states → slice_index_or shape.now.highs.items q false ≡ false }
-    requires all { vec_len shape.now.bounds ≡ piece.now.states }
-    requires bounds { AreBounds (component piece.now) shape.now.highs.items shape.now.bounds.items }
+    requires shape { IsShape (component piece.now) shape.now }
     requires best { IsBest (component piece.now) shape.now.highs.items best.now }
     requires entry { entry < piece.now.states }
     requires room { vec_len order.old.places ≡ piece.now.states }
@@ -130,15 +93,7 @@ fn compare_states(
     if shape.flat {
         return Ok(Ordering::Equal);
     }
-    compare_rows(
-        piece,
-        &shape.near,
-        &shape.highs,
-        &shape.bounds,
-        best,
-        entry,
-        order,
-    )
+    compare_rows(piece, shape, best, entry, order)
 }
 
 /// How the code from an entry compares with the best one: by the outputs, then by the edges and the exits.
@@ -153,11 +108,7 @@ fn compare_entry(
 ) -> Result<Ordering, NoMemory>
     requires component { IsComponent (component piece.now) }
     requires connected { IsStronglyConnected (component piece.now) }
-    requires near { IsNear (component piece.now) shape.now.near.starts.items shape.now.near.targets.items }
-    requires highs { IsHighs (component piece.now) shape.now.highs.items }
-    requires flat { IsTrue shape.now.flat → (q : ℕ) → q < piece.now.states → slice_index_or shape.now.highs.items q false ≡ false }
-    requires all { vec_len shape.now.bounds ≡ piece.now.states }
-    requires bounds { AreBounds (component piece.now) shape.now.highs.items shape.now.bounds.items }
+    requires shape { IsShape (component piece.now) shape.now }
     requires best { IsBest (component piece.now) shape.now.highs.items best.now }
     requires entry { entry < piece.now.states }
     requires room { vec_len side.old.order.places ≡ piece.now.states }
@@ -183,8 +134,7 @@ fn improve(
 ) -> Result<(), NoMemory>
     requires component { IsComponent (component piece.now) }
     requires connected { IsStronglyConnected (component piece.now) }
-    requires near { IsNear (component piece.now) shape.now.near.starts.items shape.now.near.targets.items }
-    requires highs { IsHighs (component piece.now) shape.now.highs.items }
+    requires shape { IsShape (component piece.now) shape.now }
     requires entry { entry < piece.now.states }
     requires best { IsBest (component piece.now) shape.now.highs.items best.old }
     requires order { order ≡ slice_cmp nat_cmp (code_from (component piece.now) entry) (code_from (component piece.now) best.old.entry) }

@@ -11,6 +11,7 @@ mod order;
 mod piece;
 mod rows;
 mod search;
+mod shape;
 #[cfg(test)]
 mod tests;
 mod writing;

@@ -2,7 +2,7 @@
 ghost use Rattle.std.specs.Prelude.{◌≡◌, ◌+◌, ◌<◌, ◌≤◌, IfOk, OnOk, vec_len, slice_index, slice_range};
 ghost use Rattle.pt_sets.specs.Components.{IsComponent, IsStronglyConnected, states_in_order};
 ghost use Rattle.pt_code.specs.Component.{component};
-ghost use Rattle.pt_code.specs.Searching.{IsNear, IsNumbered};
+ghost use Rattle.pt_code.specs.Searching.{AreRows, IsNear, IsNumbered, row_at, visit_all};
 
 use crate::fault::NoMemory;
 use crate::order::Order;
@@ -49,6 +49,20 @@ pub(crate) fn near_of(alloc: Global, piece: &Piece) -> Result<Near, NoMemory>
     Ok(Near { starts, targets })
 }
 
+/// Meets the successors of the state at a place.
+pub(crate) fn visit_next(near: &Near, order: &mut Order, next: usize) -> Result<(), NoMemory>
+    requires rows { AreRows (vec_len order.old.places) near.now.starts.items near.now.targets.items }
+    requires numbered { IsNumbered order.old.states.items order.old.places.items }
+    requires few { vec_len order.old.places ≤ 65536 }
+    requires next { next < vec_len order.old.states }
+    ensures states { OnOk result (order.new.states.items ≡ visit_all order.old.states.items (row_at near.now.starts.items near.now.targets.items (slice_index order.old.states.items next))) }
+    ensures numbered { OnOk result (IsNumbered order.new.states.items order.new.places.items) }
+    ensures room { vec_len order.new.places ≡ vec_len order.old.places }
+{
+    let state = order.states[next];
+    order.visit(near.of(state))
+}
+
 /// Searches breadth first from an entry.
 pub(crate) fn search(
     piece: &Piece,
@@ -67,8 +81,7 @@ pub(crate) fn search(
 {
     order.begin(entry)?;
     for next in 0..piece.states as usize {
-        let state = order.states[next];
-        order.visit(near.of(state))?;
+        visit_next(near, order, next)?;
     }
     Ok(())
 }

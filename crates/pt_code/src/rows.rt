@@ -1,19 +1,21 @@
 // Rows of outputs that are compared in the order of a search.
-ghost use Rattle.std.specs.Prelude.{◌≡◌, ◌≢◌, ℕ, ◌+◌, ◌*◌, ◌<◌, ◌≤◌, ◌++◌, List, Some, None, false, IsTrue, IfOk, OnOk, All, length, vec_len, slice_index, slice_index_or};
+ghost use Rattle.std.specs.Prelude.{◌≡◌, ◌≢◌, ◌↔◌, ℕ, ◌+◌, ◌*◌, ◌<◌, ◌≤◌, ◌++◌, List, false, IsTrue, IfOk, All, length, vec_len, slice_index, slice_index_or};
 ghost use Rattle.std.specs.Ordering.{nat_cmp, is_gt};
 ghost use Rattle.std.specs.Cmp.Lexicographic.{slice_cmp};
 ghost use Rattle.pt_sets.specs.Components.{IsComponent, IsStronglyConnected, states_in_order};
-ghost use Rattle.pt_code.specs.Bounding.{AreBounds};
+ghost use Rattle.pt_code.specs.Best.{IsBest};
+ghost use Rattle.pt_code.specs.Bounding.{nothing};
 ghost use Rattle.pt_code.specs.Component.{component};
 ghost use Rattle.pt_code.specs.Parts.{IsHighs, IsVerdict, row_of, outputs_part};
-ghost use Rattle.pt_code.specs.Searching.{IsNear};
+ghost use Rattle.pt_code.specs.Shapes.{IsShape};
 
 use crate::bounds::Bound;
 use crate::fault::NoMemory;
-use crate::near::Near;
+use crate::near::visit_next;
 use crate::order::Order;
 use crate::piece::Piece;
 use crate::search::outputs_of;
+use crate::shape::Shape;
 use std::alloc::Global;
 use std::cmp::Ordering;
 
@@ -113,59 +115,42 @@ pub(crate) fn run_of(highs: &[bool], states: &[u32]) -> usize
     states.len()
 }
 
-/// How the row of a state compares with that of the state at a place of the best order. Within the run that one is a least
-/// row, so no numbers have to be read.
-fn compare_at(piece: &Piece, highs: &[bool], best: &Best, place: usize, state: u32) -> Ordering
+/// How the row of a state compares with that of the state at a place of the best order, where both are least rows within
+/// the run, so that no outputs have to be read there.
+fn compare_at(piece: &Piece, best: &Best, place: usize, state: u32) -> Ordering
     requires component { IsComponent (component piece.now) }
-    requires highs { IsHighs (component piece.now) highs.now }
     requires within { All (λ q. q < piece.now.states) best.now.order.states.items }
-    requires run { (n : ℕ) → n < best.now.run → slice_index_or highs.now (slice_index best.now.order.states.items n) false ≡ false }
     requires place { place < vec_len best.now.order.states }
     requires state { state < piece.now.states }
+    requires run { place < best.now.run → row_of (component piece.now) state ≡ row_of (component piece.now) (slice_index best.now.order.states.items place) }
     ensures { result ≡ slice_cmp nat_cmp (row_of (component piece.now) state) (row_of (component piece.now) (slice_index best.now.order.states.items place)) }
 {
     if place < best.run {
-        if highs[state as usize] {
-            return Ordering::Greater;
-        }
         return Ordering::Equal;
     }
     compare_outputs(piece, state, best.order.states[place])
 }
 
 /// Whether a search that meets a state at a place meets a high state within the run.
-fn meets_high(bounds: &[Option<Bound>], run: usize, place: usize, state: u32) -> bool
+fn meets_high(bounds: &[Bound], run: usize, place: usize, state: u32) -> bool
     requires state { state < length bounds.now }
     requires place { place ≤ 65536 }
-    ensures { IsTrue result → (b : Bound) × (slice_index_or bounds.now state None ≡ Some b) × (place * b.weight + b.offset < run) }
+    ensures { IsTrue result ↔ (place * (slice_index_or bounds.now state nothing).weight + (slice_index_or bounds.now state nothing).offset < run) }
 {
-    let Some(bound) = bounds[state as usize] else {
-        return false;
-    };
+    let bound = bounds[state as usize];
     place * bound.weight as usize + (bound.offset as usize) < run
 }
 
 /// How the rows of states, with which the order from an entry begins, compare with those of the best order, where those
-/// before a place are the same. Greater as soon as a bound tells that a high state comes within the run.
-fn compare_from(
-    piece: &Piece,
-    highs: &[bool],
-    bounds: &[Option<Bound>],
-    best: &Best,
-    states: &[u32],
-    from: usize,
-) -> Ordering
+/// before a place are the same. Greater as soon as a bound tells that a high state comes within the run; so a state that
+/// is met within the run, and for which no bound tells so, is not high itself.
+fn compare_from(piece: &Piece, shape: &Shape, best: &Best, states: &[u32], from: usize) -> Ordering
     requires component { IsComponent (component piece.now) }
     requires connected { IsStronglyConnected (component piece.now) }
-    requires highs { IsHighs (component piece.now) highs.now }
-    requires all { length bounds.now ≡ piece.now.states }
-    requires bounds { AreBounds (component piece.now) highs.now bounds.now }
-    requires best_entry { best.now.entry < piece.now.states }
-    requires best { best.now.order.states.items ≡ states_in_order (component piece.now) best.now.entry }
-    requires within { All (λ q. q < piece.now.states) best.now.order.states.items }
-    requires run { (n : ℕ) → n < best.now.run → slice_index_or highs.now (slice_index best.now.order.states.items n) false ≡ false }
+    requires shape { IsShape (component piece.now) shape.now }
+    requires best { IsBest (component piece.now) shape.now.highs.items best.now }
     requires states { All (λ q. q < piece.now.states) states.now }
-    requires few { length states.now ≤ vec_len best.now.order.states }
+    requires few { length states.now ≤ piece.now.states }
     requires from { from ≤ length states.now }
     requires same { (i : ℕ) → i < from → row_of (component piece.now) (slice_index states.now i) ≡ row_of (component piece.now) (slice_index best.now.order.states.items i) }
     ensures same { result ≡ Ordering.Equal → (i : ℕ) → i < length states.now → row_of (component piece.now) (slice_index states.now i) ≡ row_of (component piece.now) (slice_index best.now.order.states.items i) }
@@ -173,10 +158,10 @@ fn compare_from(
         IsVerdict (λ i. row_of (component piece.now) (slice_index (states_in_order (component piece.now) entry) i)) (λ i. row_of (component piece.now) (slice_index best.now.order.states.items i)) piece.now.states result }
 {
     for place in from..states.len() {
-        if meets_high(bounds, best.run, place, states[place]) {
+        if meets_high(&shape.bounds, best.run, place, states[place]) {
             return Ordering::Greater;
         }
-        let order = compare_at(piece, highs, best, place, states[place]);
+        let order = compare_at(piece, best, place, states[place]);
         let Ordering::Equal = order else {
             return order;
         };
@@ -188,22 +173,15 @@ fn compare_from(
 /// are the same and no bound decides.
 pub(crate) fn compare_rows(
     piece: &Piece,
-    near: &Near,
-    highs: &[bool],
-    bounds: &[Option<Bound>],
+    shape: &Shape,
     best: &Best,
     entry: u32,
     order: &mut Order,
 ) -> Result<Ordering, NoMemory>
     requires component { IsComponent (component piece.now) }
     requires connected { IsStronglyConnected (component piece.now) }
-    requires near { IsNear (component piece.now) near.now.starts.items near.now.targets.items }
-    requires highs { IsHighs (component piece.now) highs.now }
-    requires all { length bounds.now ≡ piece.now.states }
-    requires bounds { AreBounds (component piece.now) highs.now bounds.now }
-    requires run { (n : ℕ) → n < best.now.run → slice_index_or highs.now (slice_index best.now.order.states.items n) false ≡ false }
-    requires best_entry { best.now.entry < piece.now.states }
-    requires best { best.now.order.states.items ≡ states_in_order (component piece.now) best.now.entry }
+    requires shape { IsShape (component piece.now) shape.now }
+    requires best { IsBest (component piece.now) shape.now.highs.items best.now }
     requires entry { entry < piece.now.states }
     requires room { vec_len order.old.places ≡ piece.now.states }
     ensures order { IfOk result (λ o. o ≡ slice_cmp nat_cmp (outputs_part (component piece.now) (states_in_order (component piece.now) entry)) (outputs_part (component piece.now) (states_in_order (component piece.now) best.now.entry))) }
@@ -212,13 +190,12 @@ pub(crate) fn compare_rows(
     order.begin(entry)?;
     let mut compared = 0;
     for next in 0..piece.states as usize {
-        let verdict = compare_from(piece, highs, bounds, best, &order.states, compared);
+        let verdict = compare_from(piece, shape, best, &order.states, compared);
         let Ordering::Equal = verdict else {
             return Ok(verdict);
         };
         compared = order.states.len();
-        let state = order.states[next];
-        order.visit(near.of(state))?;
+        visit_next(&shape.near, order, next)?;
     }
     Ok(Ordering::Equal)
 }

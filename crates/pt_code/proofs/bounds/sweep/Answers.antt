@@ -1,6 +1,5 @@
-use Rattle.std.proofs.Common.{rules, ◌≡◌, ◌<◌, ◌-◌, ℕ, length, sym, subst, ap, ◌∙◌, arith}
+use Rattle.std.proofs.Common.{◌≡◌, ◌<◌, ◌-◌, length, sym, ap, ◌∙◌, arith}
 use Rattle.pt_code.specs.Component.{component}
-use Rattle.pt_code.specs.Searching.{successors}
 use Rattle.pt_code.proofs.Bounding.{sweep-step}
 use Rattle.pt_code.proofs.Nearby.{near-rise, near-end, near-row, All-successors}
 use Rattle.pt_code.proofs.bounds.sweep.Goals as goal

@@ -1,4 +1,4 @@
-use Rattle.std.proofs.Common.{rules, inl, inr, ◌≡◌, ◌<◌, ◌≤◌, ◌+◌, ℕ, length, sym, subst, ap, ◌∙◌, arith, below_more, vec_len}
+use Rattle.std.proofs.Common.{inl, inr, ◌≡◌, ◌≤◌, length, ap, ◌∙◌, arith, below_more}
 use Rattle.pt_code.specs.Component.{component}
 use Rattle.pt_code.specs.Searching.{successors}
 use Rattle.pt_code.proofs.Bounding.{successors-few}

@@ -1,4 +1,4 @@
-use Rattle.std.proofs.Common.{◌≡◌, ◌≤◌, ℕ, ◌∙◌, subst, arith}
+use Rattle.std.proofs.Common.{◌≡◌, ◌≤◌, ℕ, subst, arith}
 use Rattle.pt_code.specs.Component.{component}
 use Rattle.pt_code.specs.Parts.{Leads}
 use Rattle.pt_code.proofs.Bestness.{places-all}

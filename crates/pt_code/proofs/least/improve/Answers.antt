@@ -1,4 +1,4 @@
-use Rattle.std.proofs.Common.{◌≡◌, ◌+◌, ℕ, sym, ap, ◌∙◌, subst}
+use Rattle.std.proofs.Common.{◌≡◌, ◌+◌, ℕ, sym, subst}
 use Rattle.pt_code.specs.Component.{component}
 use Rattle.pt_code.specs.Parts.{Leads}
 use Rattle.pt_code.proofs.Answering.{on_ok_by}

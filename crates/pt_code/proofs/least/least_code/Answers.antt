@@ -1,8 +1,7 @@
-use Rattle.std.proofs.Common.{ap, sym, ◌∙◌, subst}
+use Rattle.std.proofs.Common.{sym, subst}
 use Rattle.pt_sets.specs.Components.{HasShape}
 use Rattle.pt_sets.proofs.ReadBack.{HasShape-code_from}
 use Rattle.pt_code.specs.Component.{component}
-use Rattle.pt_code.proofs.Leading.{leads-all}
 use Rattle.pt_code.proofs.least.least_code.Goals as goal
 
 pub of-requires : goal.of-requires

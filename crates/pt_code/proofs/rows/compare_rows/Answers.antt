@@ -1,16 +1,15 @@
-use Rattle.std.proofs.Common.{rules, ◌≡◌, ◌<◌, ◌+◌, ◌≤◌, ◌∷◌, [], ◌++◌, ℕ, List, take, length, length-append, sym, ap, ◌∙◌, subst, arith, get_or}
+use Rattle.std.proofs.Common.{rules, ◌≡◌, ◌<◌, ◌+◌, ◌≤◌, ◌++◌, ℕ, List, take, length, length-append, sym, ap, ◌∙◌, subst, arith, get_or}
 use Rattle.std.specs.Prelude.{All}
 use Rattle.std.proofs.lemmas.List.{take-append-le}
 use Rattle.std.proofs.Math.ListN.{get_or-append}
-use Rattle.pt_sets.specs.Components.{states_in_order, near_states, edges_from}
+use Rattle.pt_sets.specs.Components.{near_states, edges_from}
 use Rattle.pt_sets.proofs.SearchOrder.{order-length}
-use Rattle.pt_sets.proofs.Isomorphic.{search_order-within}
 use Rattle.pt_code.proofs.Deciding.{rows-decided, rows-same}
 use Rattle.pt_code.specs.Component.{component}
 use Rattle.pt_code.specs.Parts.{row_of}
-use Rattle.pt_code.specs.Searching.{successors, visit_one, visit_all}
+use Rattle.pt_code.specs.Searching.{successors, visit_all}
 use Rattle.pt_code.proofs.Queue.{entry-begins, visits-more, Met-begins, Met-within}
-use Rattle.pt_code.proofs.Nearby.{All-by, visit-once, Met-inside, Met-state, Met-once, near-room, near-rise, near-end, near-row, All-successors}
+use Rattle.pt_code.proofs.Nearby.{All-by, visit-once, Met-inside, Met-once, met-row, near-rows}
 use Rattle.pt_code.proofs.rows.compare_rows.Goals as goal
 
 pub loop-next-init : goal.loop-next-init
@@ -35,99 +34,39 @@ compare_from-verdict-requires c =
     let (more, begins) = c.loop-next.invariant.begins in
     let size = ap length begins ∙ length-append order more in
     let all = order-length p c.requires.component c.args.entry c.requires.entry c.requires.connected in
-    let best_all = ap length c.requires.best ∙ order-length p c.requires.component c.args.best.now.entry c.requires.best_entry c.requires.connected in
     let within : All (λ q. q < c.args.piece.now.states) order = All-by (λ q. q < c.args.piece.now.states) order (Met-within p c.args.entry c.requires.component c.requires.entry order c.loop-next.next met) in
     record {
       component = c.requires.component;
       connected = c.requires.connected;
-      highs = c.requires.highs;
-      all = c.requires.all;
-      bounds = c.requires.bounds;
-      best_entry = c.requires.best_entry;
+      shape = c.requires.shape;
       best = c.requires.best;
-      within = subst (All (λ q. q < c.args.piece.now.states)) (sym c.requires.best)
-          (All-by (λ q. q < c.args.piece.now.states) (states_in_order p c.args.best.now.entry) (search_order-within p c.requires.component c.args.best.now.entry c.args.piece.now.states c.requires.best_entry));
-      run = c.requires.run;
       states = subst (All (λ q. q < c.args.piece.now.states)) (sym c.deref.ensures.value) within;
-      few = let shown = ap length c.deref.ensures.value in omega (arith, shown, size, all, best_all, c.args.best.now.order.states.ok.0);
+      few = let shown = ap length c.deref.ensures.value in omega (arith, shown, size, all);
       from = let shown = ap length c.deref.ensures.value in omega (arith, shown, c.loop-next.invariant.compared);
       same = λ i h. ap (λ (l : List ℕ). row_of p (get_or l i 0)) c.deref.ensures.value ∙ c.loop-next.invariant.same i h;
     }
 
-pub index-state-requires : goal.index-state-requires
-index-state-requires c =
-    let p = component c.args.piece.now in
-    let order = c.loop-next.order.states.items in
-    let n = c.loop-next.next in
-    let met = c.loop-next.invariant.met in
-    let in_n : n < c.args.piece.now.states = c.loop-next-test.true in
-    let inside = Met-inside p c.requires.component c.requires.connected c.args.entry c.requires.entry order n met in_n in
+pub visit_next-requires-clause-rows : goal.visit_next-requires-clause-rows
+visit_next-requires-clause-rows c =
+    let near = c.args.shape.now.near in
+    near-rows (component c.args.piece.now) c.requires.component near.starts.items near.targets.items c.requires.shape.near _ c.loop-next.invariant.room
+
+pub visit_next-requires-clause-next : goal.visit_next-requires-clause-next
+visit_next-requires-clause-next c =
+    let inside = Met-inside (component c.args.piece.now) c.requires.component c.requires.connected c.args.entry c.requires.entry c.loop-next.order.states.items c.loop-next.next c.loop-next.invariant.met c.loop-next-test.true in
     omega (arith, inside, c.loop-next.order.states.ok.0)
-
-pub of-requires-clause-state : goal.of-requires-clause-state
-of-requires-clause-state c =
-    let p = component c.args.piece.now in
-    let order = c.loop-next.order.states.items in
-    let n = c.loop-next.next in
-    let met = c.loop-next.invariant.met in
-    let in_n : n < c.args.piece.now.states = c.loop-next-test.true in
-    let near = c.args.near.now in
-    let q = c.index-state.result.now in
-    let (at, in_q) = Met-state p c.requires.component c.requires.connected c.args.entry c.requires.entry order n q q met in_n c.index-state.ensures in
-    let room = near-room p near.starts.items near.targets.items c.requires.near q in_q in
-    omega (arith, room, near.starts.ok.0)
-
-pub of-requires-clause-rise : goal.of-requires-clause-rise
-of-requires-clause-rise c =
-    let p = component c.args.piece.now in
-    let order = c.loop-next.order.states.items in
-    let n = c.loop-next.next in
-    let met = c.loop-next.invariant.met in
-    let in_n : n < c.args.piece.now.states = c.loop-next-test.true in
-    let near = c.args.near.now in
-    let q = c.index-state.result.now in
-    let (at, in_q) = Met-state p c.requires.component c.requires.connected c.args.entry c.requires.entry order n q q met in_n c.index-state.ensures in
-    near-rise p near.starts.items near.targets.items c.requires.near q in_q
-
-pub of-requires-clause-end : goal.of-requires-clause-end
-of-requires-clause-end c =
-    let p = component c.args.piece.now in
-    let order = c.loop-next.order.states.items in
-    let n = c.loop-next.next in
-    let met = c.loop-next.invariant.met in
-    let in_n : n < c.args.piece.now.states = c.loop-next-test.true in
-    let near = c.args.near.now in
-    let q = c.index-state.result.now in
-    let (at, in_q) = Met-state p c.requires.component c.requires.connected c.args.entry c.requires.entry order n q q met in_n c.index-state.ensures in
-    let end = near-end p near.starts.items near.targets.items c.requires.near q in_q in
-    omega (arith, end, near.targets.ok.0)
-
-pub visit-requires-clause-within : goal.visit-requires-clause-within
-visit-requires-clause-within c =
-    let p = component c.args.piece.now in
-    let order = c.loop-next.order.states.items in
-    let n = c.loop-next.next in
-    let met = c.loop-next.invariant.met in
-    let in_n : n < c.args.piece.now.states = c.loop-next-test.true in
-    let near = c.args.near.now in
-    let q = c.index-state.result.now in
-    let (at, in_q) = Met-state p c.requires.component c.requires.connected c.args.entry c.requires.entry order n q q met in_n c.index-state.ensures in
-    All-successors p c.requires.component q _ c.of.result.now (c.of.ensures ∙ near-row p near.starts.items near.targets.items c.requires.near q in_q) c.loop-next.invariant.room
 
 pub loop-next-preserved : goal.loop-next-preserved
 loop-next-preserved c =
     let p = component c.args.piece.now in
+    let near = c.args.shape.now.near in
     let order = c.loop-next.order.states.items in
     let n = c.loop-next.next in
     let met = c.loop-next.invariant.met in
     let in_n : n < c.args.piece.now.states = c.loop-next-test.true in
-    let near = c.args.near.now in
-    let q = c.index-state.result.now in
-    let (at, in_q) = Met-state p c.requires.component c.requires.connected c.args.entry c.requires.entry order n q q met in_n c.index-state.ensures in
-    let row = c.of.ensures ∙ near-row p near.starts.items near.targets.items c.requires.near q in_q in
-    let new = c.visit.new.self.states.items in
+    let new = c.visit_next.new.order.states.items in
     let targets = near_states (edges_from p (get_or order n 0)) in
-    let step : new ≡ visit_all order (successors p (get_or order n 0)) = c.in_ok-visit.ensures.states ∙ ap (visit_all order) (row ∙ ap (successors p) at) in
+    let step : new ≡ visit_all order (successors p (get_or order n 0)) = c.in_ok-visit_next.ensures.states ∙ ap (visit_all order) (met-row p c.requires.component c.requires.connected c.args.entry c.requires.entry near.starts.items near.targets.items c.requires.shape.near order n met in_n) in
     let met' = Met-once p c.requires.component c.requires.connected c.args.entry c.requires.entry order new n met in_n step in
     let inside = Met-inside p c.requires.component c.requires.connected c.args.entry c.requires.entry order n met in_n in
     let (x, longer) = visits-more order targets in
@@ -139,8 +78,8 @@ loop-next-preserved c =
     record {
       met = met';
       begins = Met-begins p c.args.entry c.requires.component c.requires.entry order new more (n + 1) met' front begins;
-      numbered = c.in_ok-visit.ensures.numbered;
-      room = c.in_ok-visit.ensures.room ∙ c.loop-next.invariant.room;
+      numbered = c.in_ok-visit_next.ensures.numbered;
+      room = c.in_ok-visit_next.ensures.room ∙ c.loop-next.invariant.room;
       compared = omega (arith, size, count);
       next = omega (arith, inside, count);
       same = λ i h.
@@ -156,8 +95,8 @@ pub returns-in_default-clause-order : goal.returns-in_default-clause-order
 returns-in_default-clause-order c =
     let p = component c.args.piece.now in
     let (more, begins) = c.loop-next.invariant.begins in
-    rows-decided p c.requires.component c.requires.connected c.args.entry c.args.best.now.entry c.requires.entry c.requires.best_entry
-    c.args.best.now.order.states.items c.compare_from-verdict.result c.requires.best c.in_default.not-Equal
+    rows-decided p c.requires.component c.requires.connected c.args.entry c.args.best.now.entry c.requires.entry c.requires.best.within
+    c.args.best.now.order.states.items c.compare_from-verdict.result c.requires.best.states c.in_default.not-Equal
     (c.compare_from-verdict.ensures.apart c.args.entry more c.requires.entry (begins ∙ ap (λ (l : List ℕ). l ++ more) (sym c.deref.ensures.value)) c.in_default.not-Equal)
 
 pub returns-clause-order : goal.returns-clause-order
@@ -167,9 +106,9 @@ returns-clause-order c =
     let (more, begins) = c.loop-next.invariant.begins in
     let all = order-length p c.requires.component c.args.entry c.requires.entry c.requires.connected in
     let past : c.args.piece.now.states ≤ c.loop-next.next = c.loop-next-test.false in
-    rows-same p c.requires.component c.requires.connected c.args.entry c.args.best.now.entry c.requires.entry c.requires.best_entry
+    rows-same p c.requires.component c.requires.connected c.args.entry c.args.best.now.entry c.requires.entry c.requires.best.within
     (λ i h.
     let early : i < c.loop-next.compared = let next = c.loop-next.invariant.next in omega (arith, past, next, h) in
     let inside : i < length order = let compared = c.loop-next.invariant.compared in omega (arith, compared, early) in
     ap (λ (l : List ℕ). row_of p (get_or l i 0)) begins ∙ ap (row_of p) (get_or-append order more 0 i inside) ∙ c.loop-next.invariant.same i early
-    ∙ ap (λ (l : List ℕ). row_of p (get_or l i 0)) c.requires.best)
+    ∙ ap (λ (l : List ℕ). row_of p (get_or l i 0)) c.requires.best.states)

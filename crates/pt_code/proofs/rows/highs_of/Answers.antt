@@ -1,4 +1,4 @@
-use Rattle.std.proofs.Common.{◌≡◌, ◌<◌, ◌≤◌, ℕ, sym, ap, ◌∙◌, arith}
+use Rattle.std.proofs.Common.{◌≡◌, ◌≤◌, ◌∙◌, arith}
 use Rattle.pt_code.specs.Component.{component}
 use Rattle.pt_code.proofs.Bits.{highs-by}
 use Rattle.pt_code.proofs.rows.highs_of.Goals as goal

@@ -1,4 +1,4 @@
-use Rattle.std.proofs.Common.{◌≡◌, ℕ, ◌+◌, ◌*◌, ◌^◌, ◌<◌, ◌≤◌, [], ◌++◌, List, map, take, length, ap, sym, ◌∙◌, arith, get_or}
+use Rattle.std.proofs.Common.{◌≡◌, ℕ, ◌+◌, ◌*◌, ◌^◌, ◌<◌, ◌≤◌, [], ◌++◌, List, map, take, length, ap, ◌∙◌, arith, get_or}
 use Rattle.std.proofs.lemmas.List.{append-nil, take_all}
 use Rattle.pt_sets.specs.declared.Exit.{Exit}
 use Rattle.pt_sets.specs.declared.Edge.{Edge}

@@ -1,4 +1,4 @@
-use Rattle.std.proofs.Common.{◌≡◌, ◌<◌, ◌∷◌, [], ℕ, List, length, sym, ap, ◌∙◌, get_or}
+use Rattle.std.proofs.Common.{◌<◌, ◌∷◌, [], length, sym, ap, ◌∙◌, get_or}
 use Rattle.pt_sets.specs.declared.Edge.{Edge}
 use Rattle.pt_sets.specs.declared.Edge.TheVariants.{Near}
 use Rattle.pt_sets.specs.Components.{near_states}
