@@ -52,7 +52,11 @@ fn better_of(own: Bound, behind: Bound, width: usize, place: usize) -> Bound
     ensures { (result ≡ own) ⊎ ((result.offset < own.offset) × (result.offset < 65536 → IsByWay behind width place result)) }
 {
     let bound = by_way(behind, width, place);
-    if bound.offset < own.offset { bound } else { own }
+    if bound.offset < own.offset {
+        bound
+    } else {
+        own
+    }
 }
 
 /// The best of the bound for a state and those by way of its successors.
@@ -71,13 +75,7 @@ fn best_of(own: Bound, row: &[u32], bounds: &[Bound], width: usize) -> Bound
 
 /// Betters the bounds by way of successors, and tells whether one changed. Downwards, since states are numbered along a
 /// depth-first search.
-fn sweep(
-    piece: &Piece,
-    near: &Near,
-    highs: &[bool],
-    width: usize,
-    bounds: &mut Vec<Bound>,
-) -> bool
+fn sweep(piece: &Piece, near: &Near, highs: &[bool], width: usize, bounds: &mut Vec<Bound>) -> bool
     requires component { IsComponent (component piece.now) }
     requires connected { IsStronglyConnected (component piece.now) }
     requires near { IsNear (component piece.now) near.now.starts.items near.now.targets.items }
