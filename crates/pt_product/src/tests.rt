@@ -2,7 +2,7 @@
 ghost use Rattle.std.specs.Prelude.{◌≡◌, ◌<◌, IfOk};
 
 use crate::*;
-use pt_handles::{TableFault, adopt, expand, longer_lists_know, same};
+use pt_handles::{Handle, OpFault, TableFault, adopt, expand, longer_lists_know, same};
 use pt_store::{LocalStore, OneShard};
 use pt_tables::{Builder, Table};
 use std::alloc::Global;
@@ -188,5 +188,131 @@ fn complements_and_more_tracks(rt: HostRuntime) -> Result<(), Fail> {
     ] {
         assert_eq!(rt; is_second_zero(&rt, alloc, z)?, is_in);
     }
+    Ok(())
+}
+
+/// Whether {0} and {-1} in common are one handle twice by a memo, what it built after each, and then the answer by a bound of 3.
+fn common_twice<R: Threads + Sync>(
+    rt: &R,
+    alloc: Global,
+) -> Result<(bool, u64, u64, Result<Handle, OpFault>), Fail> {
+    let (store, mut pass) = LocalStore::new(alloc, 1, 100, OneShard)?;
+    let zero = adopt(rt, alloc, &store, &mut pass, &sign_table(alloc, 0)?, 0)?;
+    let minus = adopt(rt, alloc, &store, &mut pass, &sign_table(alloc, 1)?, 0)?;
+    longer_lists_know();
+    let mut memo = CombineMemo::new(alloc, 2)?;
+    let first = combine_cached(
+        rt,
+        alloc,
+        &store,
+        &mut pass,
+        &mut memo,
+        Op::And,
+        zero,
+        &[0],
+        minus,
+        &[0],
+        1,
+        4,
+    )?;
+    let built = memo.built();
+    let second = combine_cached(
+        rt,
+        alloc,
+        &store,
+        &mut pass,
+        &mut memo,
+        Op::And,
+        zero,
+        &[0],
+        minus,
+        &[0],
+        1,
+        4,
+    )?;
+    let built_again = memo.built();
+    let third = combine_cached(
+        rt,
+        alloc,
+        &store,
+        &mut pass,
+        &mut memo,
+        Op::And,
+        zero,
+        &[0],
+        minus,
+        &[0],
+        1,
+        3,
+    );
+    Ok((same(first, second), built, built_again, third))
+}
+
+/// What is in {0} over a track and in {-1} over another, by a memo; that over exchanged tracks by the same memo; and by none.
+fn common_over_exchanged_tracks<R: Threads + Sync>(
+    rt: &R,
+    alloc: Global,
+) -> Result<(Handle, Handle, Handle), Fail> {
+    let (store, mut pass) = LocalStore::new(alloc, 1, 100, OneShard)?;
+    let zero = adopt(rt, alloc, &store, &mut pass, &sign_table(alloc, 0)?, 0)?;
+    let minus = adopt(rt, alloc, &store, &mut pass, &sign_table(alloc, 1)?, 0)?;
+    longer_lists_know();
+    let mut memo = CombineMemo::new(alloc, 1)?;
+    let first = combine_cached(
+        rt,
+        alloc,
+        &store,
+        &mut pass,
+        &mut memo,
+        Op::And,
+        zero,
+        &[0],
+        minus,
+        &[1],
+        2,
+        4,
+    )?;
+    let second = combine_cached(
+        rt,
+        alloc,
+        &store,
+        &mut pass,
+        &mut memo,
+        Op::And,
+        zero,
+        &[1],
+        minus,
+        &[0],
+        2,
+        4,
+    )?;
+    let plain = combine(
+        rt,
+        alloc,
+        &store,
+        &mut pass,
+        Op::And,
+        zero,
+        &[1],
+        minus,
+        &[0],
+        2,
+        4,
+    )?;
+    Ok((first, second, plain))
+}
+
+#[test]
+fn answers_are_kept(rt: HostRuntime) -> Result<(), Fail> {
+    let alloc = rt.alloc();
+    let (one, built, built_again, above) = common_twice(&rt, alloc)?;
+    assert!(rt; one);
+    assert_eq!(rt; built, 4);
+    assert_eq!(rt; built_again, 4);
+    assert!(rt; above == Err(OpFault::States { bound: 3 }));
+    let (first, second, plain) = common_over_exchanged_tracks(&rt, alloc)?;
+    assert!(rt; !same(first, second));
+    assert!(rt; same(second, plain));
+    good_answers_stay_good();
     Ok(())
 }
