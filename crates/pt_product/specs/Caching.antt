@@ -1,6 +1,5 @@
 -- The answers to combinations that are kept.
-use Rattle.std.specs.Prelude.{◌≡◌, ℕ, ◌+◌, Bool, List, Contains, Option}
-use Rattle.std.specs.Map.{lookup}
+use Rattle.std.specs.Prelude.{ℕ, List, Contains}
 use Rattle.pt_sets.specs.Costs.{SamePair, CostIs}
 use Rattle.pt_sets.specs.Lists.{Lists, Home, Extends}
 use Rattle.pt_sets.specs.Restricting.{IsTrackMap, widened}

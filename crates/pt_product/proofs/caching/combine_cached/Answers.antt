@@ -1,9 +1,9 @@
-use Rattle.std.proofs.Common.{◌≡◌, ℕ, ◌-◌, ◌<◌, ◌≤◌, ◌∷◌, take, length, Contains, None, IfNone, ap, sym, ◌∙◌, subst, refl, arith}
+use Rattle.std.proofs.Common.{◌≡◌, ℕ, ◌-◌, ◌<◌, ◌≤◌, ◌∷◌, take, Contains, IfNone, ap, sym, ◌∙◌, subst, refl, arith}
 use Rattle.std.specs.Map.{lookup}
 use Rattle.pt_sets.specs.Costs.{SamePair, CostIs}
 use Rattle.pt_sets.specs.Restricting.{widened}
 use Rattle.pt_sets.proofs.Restricted.{All-map}
-use Rattle.pt_memo.specs.Memos.{OneMemo, one_memo, counted}
+use Rattle.pt_memo.specs.Memos.{one_memo, counted}
 use Rattle.pt_handles.specs.declared.handle.Handle.{Handle}
 use Rattle.pt_handles.specs.Handles.{Has, SetOfHandle, state_of}
 use Rattle.pt_product.specs.declared.combination.Combination.{Combination}
