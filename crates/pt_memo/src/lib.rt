@@ -6,6 +6,3 @@ mod memo;
 
 pub use answer::Answer;
 pub use memo::Memo;
-
-#[cfg(test)]
-mod tests;

@@ -3,7 +3,7 @@ ghost use Rattle.std.specs.Prelude.{◌≡◌, ◌<◌, IfOk};
 
 use crate::bits::{clear_words, set_bit, take_numbers};
 use crate::*;
-use pt_handles::{TableFault, adopt, expand, longer_lists_know, same};
+use pt_handles::{TableFault, adopt, expand};
 use pt_store::{LocalStore, OneShard};
 use pt_tables::{Builder, Table};
 use std::alloc::Global;
@@ -265,39 +265,5 @@ fn bits_are_read_in_the_order_of_a_sort(rt: HostRuntime) -> Result<(), Fail> {
         let (by_bits, by_sorting) = in_order_by_bits_and_by_sorting(rt.alloc(), count)?;
         assert_eq!(rt; by_bits, by_sorting);
     }
-    Ok(())
-}
-
-/// Whether the projection of {(0, 5)} is one handle twice by a memo, that of {0} alone of the numbers from -20 to 20; and what the memo
-/// built after each.
-fn zero_twice<R: Threads + Sync>(rt: &R, alloc: Global) -> Result<(bool, bool, u64, u64), Fail> {
-    let table = vector_table(alloc, &[2, 0, 2])?;
-    let (store, mut pass) = LocalStore::new(alloc, 1, 1000, OneShard)?;
-    let set = adopt(rt, alloc, &store, &mut pass, &table, 0)?;
-    longer_lists_know();
-    let mut memo = ExistsMemo::new(alloc, 1)?;
-    let first = exists_cached(rt, alloc, &store, &mut pass, &mut memo, set, 1, 100)?;
-    let built = memo.built();
-    let second = exists_cached(rt, alloc, &store, &mut pass, &mut memo, set, 1, 100)?;
-    let built_again = memo.built();
-    let (zeros, start) = expand(alloc, &pass, second)?;
-    let mut alone = true;
-    for k in 0..41u32 {
-        let x = i128::from(k) - 20;
-        if zeros.member(start, &[x]) != (x == 0) {
-            alone = false;
-        }
-    }
-    Ok((same(first, second), alone, built, built_again))
-}
-
-#[test]
-fn answers_are_kept(rt: HostRuntime) -> Result<(), Fail> {
-    let (one, alone, built, built_again) = zero_twice(&rt, rt.alloc())?;
-    assert!(rt; one);
-    assert!(rt; alone);
-    assert_eq!(rt; built, 5);
-    assert_eq!(rt; built_again, 5);
-    good_answers_stay_good();
     Ok(())
 }
