@@ -11,3 +11,5 @@ pub mod Wide
 pub mod Turned
 pub mod Expanded
 pub mod Derivations
+pub mod TrackSets
+pub mod Cached

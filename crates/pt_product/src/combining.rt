@@ -1,5 +1,5 @@
 // Boolean operations on two sets.
-ghost use Rattle.std.specs.Prelude.{◌≡◌, ◌+◌, ◌<◌, ◌≤◌, IfOk, IfErr, OnOk};
+ghost use Rattle.std.specs.Prelude.{◌≡◌, ℕ, ◌+◌, ◌<◌, ◌≤◌, Err, IfOk, IfErr, OnOk};
 ghost use Rattle.pt_sets.specs.Sets.{SameSet};
 ghost use Rattle.pt_sets.specs.Automata.{SetOfState};
 ghost use Rattle.pt_sets.specs.Lists.{Extends};
@@ -15,6 +15,7 @@ use crate::search::search_pairs;
 use crate::side::Side;
 use pt_formula::Op;
 use pt_handles::{Handle, OpFault, TableFault, adopt, expand};
+use pt_memo::Answer;
 use pt_store::{Codes, Interner};
 use pt_tables::Table;
 use std::alloc::Global;
@@ -103,9 +104,61 @@ pub fn combine<R: Threads + Sync, I: Interner>(
         (combined op (widened map_a.now (SetOfHandle (I.Pass.lists pass.old) a)) (widened map_b.now (SetOfHandle (I.Pass.lists pass.old) b)))) }
     ensures offers { I.Pass.offered pass.new ≤ I.Pass.offered pass.old + bound }
 {
-    let table = combine_table(alloc, &*pass, op, a, map_a, b, map_b, tracks, bound)?;
+    match combine_with_cost(
+        rt, alloc, store, pass, op, a, map_a, b, map_b, tracks, bound,
+    ) {
+        Ok(answer) => Ok(answer.value),
+        Err(fault) => Err(fault),
+    }
+}
+
+/// The combined set as a known handle, with the number of pairs.
+pub(crate) fn combine_with_cost<R: Threads + Sync, I: Interner>(
+    rt: &R,
+    alloc: Global,
+    store: &I,
+    pass: &mut I::Pass,
+    op: Op,
+    a: Handle,
+    map_a: &[u8],
+    b: Handle,
+    map_b: &[u8],
+    tracks: u32,
+    bound: u32,
+) -> Result<Answer<Handle>, OpFault>
+    requires owned { I.owns store.now pass.old }
+    requires known_a { IsKnown I.Pass.home (I.Pass.lists pass.old) a }
+    requires known_b { IsKnown I.Pass.home (I.Pass.lists pass.old) b }
+    requires map_a { IsTrackMap a.tracks tracks map_a.now }
+    requires map_b { IsTrackMap b.tracks tracks map_b.now }
+    requires tracks { tracks ≤ 10 }
+    requires some { 0 < bound }
+    requires few { bound ≤ 65536 }
+    ensures kept { I.owns store.now pass.new }
+    ensures extends { Extends (I.Pass.lists pass.old) (I.Pass.lists pass.new) }
+    ensures ok { IfOk result (λ answer. Has I.Pass.home (I.Pass.lists pass.new) tracks
+        (combined op (widened map_a.now (SetOfHandle (I.Pass.lists pass.old) a)) (widened map_b.now (SetOfHandle (I.Pass.lists pass.old) b))) answer.value) }
+    ensures cost { IfOk result (λ answer. CostIs
+        (SamePair tracks (widened map_a.now (SetOfHandle (I.Pass.lists pass.old) a)) (widened map_b.now (SetOfHandle (I.Pass.lists pass.old) b))) tracks answer.cost) }
+    ensures within { OnOk result (CostWithin
+        (SamePair tracks (widened map_a.now (SetOfHandle (I.Pass.lists pass.old) a)) (widened map_b.now (SetOfHandle (I.Pass.lists pass.old) b))) tracks bound) }
+    ensures err { IfErr result (RefusedOnlyWhere
+        (SamePair tracks (widened map_a.now (SetOfHandle (I.Pass.lists pass.old) a)) (widened map_b.now (SetOfHandle (I.Pass.lists pass.old) b))) tracks bound
+        I.Pass.home (I.limit_of store.now) (I.Pass.lists pass.new) tracks
+        (combined op (widened map_a.now (SetOfHandle (I.Pass.lists pass.old) a)) (widened map_b.now (SetOfHandle (I.Pass.lists pass.old) b)))) }
+    ensures full_within { (shard count : ℕ) → result ≡ Err (OpFault.Full shard count) → CostWithin
+        (SamePair tracks (widened map_a.now (SetOfHandle (I.Pass.lists pass.old) a)) (widened map_b.now (SetOfHandle (I.Pass.lists pass.old) b))) tracks bound }
+    ensures offers { I.Pass.offered pass.new ≤ I.Pass.offered pass.old + bound }
+{
+    let table = match combine_table(alloc, &*pass, op, a, map_a, b, map_b, tracks, bound) {
+        Ok(table) => table,
+        Err(fault) => return Err(OpFault::from(fault)),
+    };
     match adopt(rt, alloc, store, pass, &table, 0) {
-        Ok(handle) => Ok(handle),
+        Ok(handle) => Ok(Answer {
+            value: handle,
+            cost: table.states(),
+        }),
         Err(fault) => Err(OpFault::from(fault)),
     }
 }

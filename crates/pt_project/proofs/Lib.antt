@@ -13,3 +13,4 @@ pub mod FamilyVisits
 pub mod Transfers
 pub mod Moving
 pub mod Rows
+pub mod Cached

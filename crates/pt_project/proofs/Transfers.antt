@@ -1,10 +1,10 @@
 -- Costs of equal sets.
-use Rattle.std.proofs.Common.{ℕ, suc, List, ◌∙◌}
+use Rattle.std.proofs.Common.{◌↔◌, ℕ, suc, List, ◌∙◌}
 use Rattle.pt_sets.specs.Words.{Vector, after_digits}
 use Rattle.pt_sets.specs.Sets.{SameSet, residual_by}
-use Rattle.pt_sets.specs.Costs.{RestrictsBy, SameResidual, IncludesFamily}
+use Rattle.pt_sets.specs.Costs.{RestrictsBy, SameResidual, IncludesFamily, CostIs}
 use Rattle.pt_sets.proofs.Digits.{length-after_digits}
-use Rattle.pt_sets.proofs.Counting.{SameSet-sym, SameSet-trans, above-moved}
+use Rattle.pt_sets.proofs.Counting.{SameSet-sym, SameSet-trans, above-moved, is-moved}
 use Rattle.pt_handles.specs.Refusing.{StatesOnlyAbove}
 use Rattle.pt_handles.specs.declared.fault.TableFault.{TableFault}
 use Rattle.pt_handles.specs.declared.fault.TableFault.TheVariants.{States, NoMemory}
@@ -31,3 +31,8 @@ module _ (n k : ℕ) (X Y : Vector → Type 0) (same : SameSet (suc n) X Y) wher
   pub refusal-moved : (B : ℕ) (fault : TableFault) → StatesOnlyAbove (same_family n k X) n B fault → StatesOnlyAbove (same_family n k Y) n B fault
   refusal-moved B NoMemory h = tt
   refusal-moved B (States bound) h = (h.0, above-moved (same_family n k X) (same_family n k Y) n (λ v w vs ws. family-moved v w) B h.1)
+
+-- and so is a cost
+pub cost-moved : (n k : ℕ) (X Y : Vector → Type 0) → SameSet (suc n) X Y → (B : ℕ) → CostIs (same_family n k X) n B → CostIs (same_family n k Y) n B
+cost-moved n k X Y same B cost =
+    is-moved (same_family n k X) (same_family n k Y) n (λ v w vs ws. (family-moved n k Y X (SameSet-sym (suc n) X Y same) v w, family-moved n k X Y same v w)) B cost

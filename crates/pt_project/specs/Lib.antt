@@ -4,3 +4,4 @@ pub mod Families
 pub mod Closing
 pub mod Numbered
 pub mod Searching
+pub mod Caching

@@ -5,7 +5,9 @@ ghost use Rattle.pt_handles.specs.Handles.{SetOfHandle};
 ghost use Rattle.pt_handles.specs.declared.handle.Handle.{Handle};
 ghost use Rattle.pt_project.specs.Projecting.{SignClosureIsProjection, without};
 ghost use Rattle.pt_project.specs.Families.{ClosingIsProjection};
+ghost use Rattle.pt_project.specs.Caching.{GoodAnswersStayGood};
 
+use pt_handles::longer_lists_know;
 use pt_store::Codes;
 
 /// Sign closure gives the projection: a word over the remaining tracks is accepted by it exactly where some integer can be
@@ -23,3 +25,10 @@ pub fn family_costs_exclude_each_other<P: Codes>(pass: &P)
         CostAbove (SameFamily (RestrictsBy a.tracks (without track)) a.tracks (SetOfHandle (P.lists pass.now) a)) (a.tracks - 1) B →
         CostWithin (SameFamily (RestrictsBy a.tracks (without track)) a.tracks (SetOfHandle (P.lists pass.now) a)) (a.tracks - 1) B → ⊥ }
 {}
+
+/// A memo whose answers are right for lists is right for longer ones: what they know stays known, with its set, and so the costs stay.
+pub fn good_answers_stay_good()
+    ensures { GoodAnswersStayGood }
+{
+    longer_lists_know();
+}

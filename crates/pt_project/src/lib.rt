@@ -2,6 +2,7 @@
 #![tactic(auto)]
 
 mod bits;
+mod caching;
 mod closing;
 mod families;
 mod family;
@@ -10,7 +11,10 @@ mod projecting;
 mod search;
 mod sources;
 
-pub use laws::{family_costs_exclude_each_other, sign_closures_are_projections};
+pub use caching::{ExistsMemo, Projection, exists_cached};
+pub use laws::{
+    family_costs_exclude_each_other, good_answers_stay_good, sign_closures_are_projections,
+};
 pub use projecting::{exists, exists_table};
 
 #[cfg(test)]

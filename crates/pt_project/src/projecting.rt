@@ -1,5 +1,5 @@
 // Dropping a track of a set.
-ghost use Rattle.std.specs.Prelude.{◌≡◌, ◌<◌, ◌≤◌, ◌+◌, ◌-◌, IfOk, IfErr, OnOk};
+ghost use Rattle.std.specs.Prelude.{◌≡◌, ℕ, ◌<◌, ◌≤◌, ◌+◌, ◌-◌, Err, IfOk, IfErr, OnOk};
 ghost use Rattle.pt_sets.specs.Sets.{SameSet};
 ghost use Rattle.pt_sets.specs.Automata.{SetOfState};
 ghost use Rattle.pt_sets.specs.Lists.{Extends};
@@ -10,6 +10,7 @@ ghost use Rattle.pt_project.specs.Projecting.{projected, without};
 
 use crate::search::{Task, search_families};
 use pt_handles::{Handle, OpFault, TableFault, adopt, expand};
+use pt_memo::Answer;
 use pt_store::{Codes, Interner};
 use pt_tables::Table;
 use std::alloc::Global;
@@ -83,9 +84,47 @@ pub fn exists<R: Threads + Sync, I: Interner>(
         I.Pass.home (I.limit_of store.now) (I.Pass.lists pass.new) (a.tracks - 1) (projected track (SetOfHandle (I.Pass.lists pass.old) a))) }
     ensures offers { I.Pass.offered pass.new ≤ I.Pass.offered pass.old + bound }
 {
-    let table = exists_table(alloc, &*pass, a, track, bound)?;
+    match exists_with_cost(rt, alloc, store, pass, a, track, bound) {
+        Ok(answer) => Ok(answer.value),
+        Err(fault) => Err(fault),
+    }
+}
+
+/// The projection as a known handle, with the number of families.
+pub(crate) fn exists_with_cost<R: Threads + Sync, I: Interner>(
+    rt: &R,
+    alloc: Global,
+    store: &I,
+    pass: &mut I::Pass,
+    a: Handle,
+    track: u32,
+    bound: u32,
+) -> Result<Answer<Handle>, OpFault>
+    requires owned { I.owns store.now pass.old }
+    requires known { IsKnown I.Pass.home (I.Pass.lists pass.old) a }
+    requires track { track < a.tracks }
+    requires some { 0 < bound }
+    requires few { bound ≤ 65536 }
+    ensures kept { I.owns store.now pass.new }
+    ensures extends { Extends (I.Pass.lists pass.old) (I.Pass.lists pass.new) }
+    ensures ok { IfOk result (λ answer. Has I.Pass.home (I.Pass.lists pass.new) (a.tracks - 1) (projected track (SetOfHandle (I.Pass.lists pass.old) a)) answer.value) }
+    ensures cost { IfOk result (λ answer. CostIs (SameFamily (RestrictsBy a.tracks (without track)) a.tracks (SetOfHandle (I.Pass.lists pass.old) a)) (a.tracks - 1) answer.cost) }
+    ensures within { OnOk result (CostWithin (SameFamily (RestrictsBy a.tracks (without track)) a.tracks (SetOfHandle (I.Pass.lists pass.old) a)) (a.tracks - 1) bound) }
+    ensures err { IfErr result (RefusedOnlyWhere (SameFamily (RestrictsBy a.tracks (without track)) a.tracks (SetOfHandle (I.Pass.lists pass.old) a)) (a.tracks - 1) bound
+        I.Pass.home (I.limit_of store.now) (I.Pass.lists pass.new) (a.tracks - 1) (projected track (SetOfHandle (I.Pass.lists pass.old) a))) }
+    ensures full_within { (shard count : ℕ) → result ≡ Err (OpFault.Full shard count) →
+        CostWithin (SameFamily (RestrictsBy a.tracks (without track)) a.tracks (SetOfHandle (I.Pass.lists pass.old) a)) (a.tracks - 1) bound }
+    ensures offers { I.Pass.offered pass.new ≤ I.Pass.offered pass.old + bound }
+{
+    let table = match exists_table(alloc, &*pass, a, track, bound) {
+        Ok(table) => table,
+        Err(fault) => return Err(OpFault::from(fault)),
+    };
     match adopt(rt, alloc, store, pass, &table, 0) {
-        Ok(handle) => Ok(handle),
+        Ok(handle) => Ok(Answer {
+            value: handle,
+            cost: table.states(),
+        }),
         Err(fault) => Err(OpFault::from(fault)),
     }
 }
