@@ -3,5 +3,7 @@
 
 mod draws;
 mod script;
+#[cfg(test)]
+mod tests;
 
 pub use script::drill_script;

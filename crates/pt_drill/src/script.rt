@@ -1,5 +1,5 @@
 // The text of the script.
-ghost use Rattle.std.specs.Prelude.{◌≡◌, ◌++◌, IfOk, OnOk};
+ghost use Rattle.std.specs.Prelude.{◌≡◌, ◌++◌, IfOk, OnOk, decimal};
 ghost use Rattle.pt_drill.specs.Drill.{definition, questions, drill_text};
 
 use crate::draws::{Draws, Group};
@@ -30,9 +30,19 @@ pub fn drill_script(alloc: Global, seed: u32, size: u32) -> Result<Vec<u8>, NoMe
 fn write_definition(alloc: Global, out: &mut Vec<u8>, i: u32, group: Group) -> Result<(), NoMemory>
     ensures { OnOk result (out.new.items ≡ out.old.items ++ definition i group) }
 {
-    let Group { a, b, c, m, d, e } = group;
-    let text = format!(in alloc; "(define-fun g{i} ((x Int) (y Int)) Bool (and (and (<= (+ (* {a} x) (* {b} y)) {c}) ((_ divisible {m}) (+ x (* {d} y)))) (= (- x y) {e})))\n")?;
-    out.extend_from_slice(text.as_bytes())?;
+    write_number(alloc, out, b"(define-fun g", i)?;
+    write_number(
+        alloc,
+        out,
+        b" ((x Int) (y Int)) Bool (and (and (<= (+ (* ",
+        group.a,
+    )?;
+    write_number(alloc, out, b" x) (* ", group.b)?;
+    write_number(alloc, out, b" y)) ", group.c)?;
+    write_number(alloc, out, b") ((_ divisible ", group.m)?;
+    write_number(alloc, out, b") (+ x (* ", group.d)?;
+    write_number(alloc, out, b" y)))) (= (- x y) ", group.e)?;
+    out.extend_from_slice(b")))\n")?;
     Ok(())
 }
 
@@ -40,7 +50,18 @@ fn write_definition(alloc: Global, out: &mut Vec<u8>, i: u32, group: Group) -> R
 fn write_questions(alloc: Global, out: &mut Vec<u8>, i: u32) -> Result<(), NoMemory>
     ensures { OnOk result (out.new.items ≡ out.old.items ++ questions i) }
 {
-    let text = format!(in alloc; "(set-states g{i})\n(push 1)\n(assert (and (g{i} p q) (>= p 0)))\n(check-sat)\n(pop 1)\n")?;
-    out.extend_from_slice(text.as_bytes())?;
+    write_number(alloc, out, b"(set-states g", i)?;
+    write_number(alloc, out, b")\n(push 1)\n(assert (and (g", i)?;
+    out.extend_from_slice(b" p q) (>= p 0)))\n(check-sat)\n(pop 1)\n")?;
+    Ok(())
+}
+
+/// A number, and what stands before it.
+fn write_number(alloc: Global, out: &mut Vec<u8>, before: &[u8], n: u32) -> Result<(), NoMemory>
+    ensures { OnOk result (out.new.items ≡ out.old.items ++ before.now ++ decimal n) }
+{
+    let digits = format!(in alloc; "{n}")?;
+    out.extend_from_slice(before)?;
+    out.extend_from_slice(digits.as_bytes())?;
     Ok(())
 }
