@@ -6,7 +6,9 @@ use std::test::Fail;
 #[test]
 fn the_script_of_one_group(rt: HostRuntime) -> Result<(), Fail> {
     let text = drill_script(rt.alloc(), 0, 1).ok().ok_or("no memory")?;
-    assert_eq!(rt; text.as_slice(), b"(declare-const p Int)
+    assert_eq!(rt;
+        text.as_slice(),
+        b"(declare-const p Int)
 (declare-const q Int)
 (define-fun g0 ((x Int) (y Int)) Bool (and (and (<= (+ (* 1 x) (* 4 y)) 4) ((_ divisible 3) (+ x (* 5 y)))) (= (- x y) 31)))
 (set-states g0)
@@ -14,7 +16,9 @@ fn the_script_of_one_group(rt: HostRuntime) -> Result<(), Fail> {
 (assert (and (g0 p q) (>= p 0)))
 (check-sat)
 (pop 1)
-".as_slice());
+"
+            .as_slice()
+    );
     Ok(())
 }
 
@@ -41,7 +45,10 @@ fn plain_script(alloc: Global, seed: u64, size: u64) -> Result<String, AllocErro
         let a = a.wrapping_add(1);
         let b = b.wrapping_add(1);
         let m = m.wrapping_add(2);
-        writeln!(text, "(define-fun g{i} ((x Int) (y Int)) Bool (and (and (<= (+ (* {a} x) (* {b} y)) {c}) ((_ divisible {m}) (+ x (* {d} y)))) (= (- x y) {e})))")?;
+        writeln!(
+            text,
+            "(define-fun g{i} ((x Int) (y Int)) Bool (and (and (<= (+ (* {a} x) (* {b} y)) {c}) ((_ divisible {m}) (+ x (* {d} y)))) (= (- x y) {e})))"
+        )?;
         writeln!(text, "(set-states g{i})")?;
         text.push_str("(push 1)\n")?;
         writeln!(text, "(assert (and (g{i} p q) (>= p 0)))")?;

@@ -141,7 +141,6 @@ module _ (words : List (List ℕ)) (settings : AreSettings words) (value : List 
 -- ---- words give one list of options
 
 module _ (words : List (List ℕ)) (settings : AreSettings words) where
-
   -- the two words of the mode differ
   solve_drill : codes "solve" ≡ codes "drill" → ⊥
   solve_drill e =

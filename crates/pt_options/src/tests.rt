@@ -24,7 +24,11 @@ fn expect(
     let mut words = words_of(alloc, line)?;
     assert_eq!(rt; options(alloc, words.as_slice()), answer, "{line}");
     words.reverse();
-    assert_eq!(rt; options(alloc, words.as_slice()), answer, "{line}, from the last word");
+    assert_eq!(rt;
+        options(alloc, words.as_slice()),
+        answer,
+        "{line}, from the last word"
+    );
     Ok(())
 }
 
@@ -148,7 +152,11 @@ fn words_with_blanks(rt: HostRuntime) -> Result<(), Fail> {
     for word in ["", " ", "--workers=4 ", " --workers=4", "--workers= 4"] {
         let mut words = Vec::new(alloc);
         words.push(String::from_str(alloc, word)?)?;
-        assert_eq!(rt; options(alloc, words.as_slice()), Err(WordsFault::Usage), "{word}");
+        assert_eq!(rt;
+            options(alloc, words.as_slice()),
+            Err(WordsFault::Usage),
+            "{word}"
+        );
     }
     Ok(())
 }

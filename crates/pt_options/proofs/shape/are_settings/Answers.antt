@@ -9,16 +9,14 @@ returns-in_default c =
     let known = c.in-Some.ensures in
     let is : string_bytes c.index-words-i.result ≡ start known.0 ++ known.1 = sym c.as_str.ensures.value ∙ known.5 ∙ ap (λ (s : List ℕ). s ++ known.1) known.3 in
     let stands : Stands string_bytes (start known.0) (take c.loop-i.i c.args.words.now) =
-    subst (λ (s : List ℕ). Stands string_bytes s (take c.loop-i.i c.args.words.now)) known.3 (c.stands_in.ensures.0 c.if-not-stands_in.false) in
-    (
+    subst (λ (s : List ℕ). Stands string_bytes s (take c.loop-i.i c.args.words.now)) known.3 (c.stands_in.ensures.0 c.if-not-stands_in.false) in (
       λ same. absurd (true≢false (sym same)),
       λ settings. absurd (named_twice string_bytes c.args.words.now c.loop-i.i c.index-words-i.result (omega arith) c.index-words-i.is known.0 known.1 known.2 is stands settings),
     )
 
 pub returns-in_default-2 : goal.returns-in_default-2
 returns-in_default-2 c =
-    let none = rw c.in_default.is at c.start_of.ensures in
-    (
+    let none = rw c.in_default.is at c.start_of.ensures in (
       λ same. absurd (true≢false (sym same)),
       λ settings. absurd (no_setting string_bytes c.args.words.now c.loop-i.i c.index-words-i.result (omega arith) c.index-words-i.is (λ is. none (subst IsSetting (sym c.as_str.ensures.value) is)) settings),
     )
