@@ -1,4 +1,6 @@
 // Scripts of mode drill, against the text of one and a plain program.
+ghost use Rattle.std.specs.Prelude.{◌<◌};
+
 use crate::drill_script;
 use std::alloc::{AllocError, Global};
 use std::test::Fail;
