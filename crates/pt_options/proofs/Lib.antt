@@ -1,0 +1,6 @@
+mod Starts
+mod Rows
+mod Lines
+mod Numbers
+mod Meaning
+mod Shapes
