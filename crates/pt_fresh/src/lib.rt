@@ -9,6 +9,8 @@ pub mod laws;
 mod nodes;
 mod pairs;
 mod term;
+#[cfg(test)]
+mod tests;
 
 pub use builders::{choice, divide, magnitude, remainder};
 pub use closing::close;
