@@ -1,7 +1,7 @@
 pub mod SymbolLemmas
 pub mod ConstantLemmas
 pub mod BelowLemmas
-pub mod BelowForms
+pub mod SortLemmas
 pub mod Ranges
 pub mod Chaining
 pub mod Steps
