@@ -33,3 +33,4 @@ pub mod KeepForms
 pub mod KeepTheory
 pub mod KeepCopies
 pub mod KeepTerms
+pub mod SortedTrees

@@ -1,5 +1,5 @@
 -- Sorts of the variables that have been given out, and what is over variables of these sorts.
-use Rattle.std.specs.Prelude.{ℕ, ◌≡◌, ◌⊎◌, Bool, true, false, List, [], ◌∷◌, Some, pos, ◌&&◌, slice_get, ⊤}
+use Rattle.std.specs.Prelude.{ℕ, ◌≡◌, ◌⊎◌, Bool, true, false, List, [], ◌∷◌, length, ℤ, Option, Some, pos, ◌&&◌, slice_get, ⊤, ⊥}
 use Rattle.std.specs.List.{AllByRecursion}
 use Rattle.pt_atoms.specs.declared.Kind.TheVariants.{Mod}
 use Rattle.pt_formula.specs.declared.node.Node.{Node}
@@ -7,6 +7,8 @@ use Rattle.pt_formula.specs.declared.node.Node.TheVariants as node
 use Rattle.pt_formula.specs.declared.node.Position.{Position}
 use Rattle.pt_formula.specs.Forms.{Term}
 use Rattle.pt_formula.specs.Formulas.{node_at}
+use Rattle.pt_formula.specs.Oddness.{AgreeUpToOddnessAt}
+use Rattle.pt_formula.specs.Truth.{Tree, free_variables, valuation}
 use Rattle.pt_terms.specs.declared.meaning.Meaning.{Meaning}
 use Rattle.pt_terms.specs.declared.meaning.Meaning.TheVariants.{Int, Bool as Truth}
 use Rattle.pt_terms.specs.declared.meaning.Sort.{Sort}
@@ -51,3 +53,17 @@ IsSorted given _ = ⊤
 
 abbrev pub AreSorted : List (Node × Position) → List Sort → Type 0
 AreSorted f given = (i : ℕ) → IsSorted given (node_at f i)
+
+abbrev pub is_truth_sort : Option Sort → Bool
+is_truth_sort (Some sort.Bool) = true
+is_truth_sort _ = false
+
+-- the variable was given out with sort Bool
+abbrev pub is_truth : List Sort → ℕ → Bool
+is_truth given v = is_truth_sort (slice_get given v)
+
+-- as values of the free variables of a tree they agree: at a variable of sort Bool both are odd or both are even, at another one they are equal
+abbrev pub AgreeBySort : List Sort → Tree → List ℤ → List ℤ → Type 0
+AgreeBySort given t y z =
+    (length y ≡ length z)
+    × AgreeUpToOddnessAt (is_truth given) (free_variables t) (valuation (free_variables t) y) (valuation (free_variables t) z)
