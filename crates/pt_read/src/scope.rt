@@ -6,7 +6,7 @@ use pt_syntax::{Position, ReadRefusal, SExpr};
 use pt_terms::arithmetic::copy_of_meaning;
 use pt_terms::bytes::Bytes;
 use pt_terms::elaborator::Elaborator;
-use pt_terms::laws::terms_are_over_the_names_that_they_see;
+use pt_terms::laws::{solutions_depend_on_oddness_alone, terms_are_over_the_names_that_they_see};
 use pt_terms::meaning::{Constant, Sort};
 use pt_terms::parameters::Parameters;
 use pt_terms::sorts::Sorts;
@@ -62,7 +62,9 @@ fn assertions_up_to(assertions: &[Assertion], level: u128) -> usize
 
 /// The readers take constant time.
 impl Scope {
-    ghost use Rattle.std.specs.Prelude.{◌<◌, ◌≤◌, ◌^◌, length, IfOk, OnOk, OnErr};
+    ghost use Rattle.std.specs.Prelude.{◌<◌, ◌≤◌, ◌^◌, ◌↔◌, ℕ, ℤ, List, length, IfOk, OnOk, OnErr};
+    ghost use Rattle.pt_formula.specs.Formulas.{tree_of};
+    ghost use Rattle.pt_formula.specs.Truth.{Solutions};
     ghost use Rattle.pt_read.specs.Scope.{initial, after, conjunction};
     ghost use Rattle.pt_terms.specs.Names.{constants_in, is_live};
     ghost use Rattle.pt_read.specs.Fits.{FitsKind, CanPop, IsNewConstant, IsNewDefinition, IsNewAssertion};
@@ -70,7 +72,7 @@ impl Scope {
     ghost use Rattle.pt_read.specs.Commands.{elaborate};
     ghost use Rattle.pt_read.specs.Reader.{Elaborated, OnlyAdds};
     ghost use Rattle.pt_read.specs.Context.{joined};
-    ghost use Rattle.pt_terms.specs.Sorts.{HasSort};
+    ghost use Rattle.pt_terms.specs.Sorts.{HasSort, AgreeBySort};
 
     /// Node 0 alone, no names, level 0, and no variable given out.
     pub fn new(alloc: Global) -> Result<Scope, NoMemory>
@@ -85,10 +87,12 @@ impl Scope {
         })
     }
 
-    /// The formula of all nodes so far.
+    /// The formula of all nodes so far. Of variables of sort Bool the solutions of its nodes depend on the oddness alone.
     pub fn formula(&self) -> &Formula
-        ensures { result.now ≡ self.now.formula }
+        ensures value { result.now ≡ self.now.formula }
+        ensures oddness { (i : ℕ) (y z : List ℤ) → AgreeBySort self.now.given (tree_of self.now.formula i) y z → Solutions (tree_of self.now.formula i) y ↔ Solutions (tree_of self.now.formula i) z }
     {
+        solutions_depend_on_oddness_alone();
         self.work.formula()
     }
 

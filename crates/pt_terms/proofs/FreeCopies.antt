@@ -166,7 +166,7 @@ good-copy-node F V Q whole p ps rs re copies i x at = by-node x (whole.trees i �
     C x n = (i < n) × Copied V F ps copies x n × TruthsIn V F rs n
 
     one : (x : Node) (a : ℕ) → ((u : ℕ) → ContainsByRecursion u (variables_of F a) → ContainsByRecursion u (variables_of F i)) → ContainsByRecursion a (children x) → (n : ℕ) → C x n → FreeIn (After V F ps i) F (Theory.copy_of copies a)
-    one x a wider k n c = after-wider V F ps a i (variables_of F (Theory.copy_of copies a)) wider (c.1.0 a k).1
+    one x a wider k n c = after-wider V F ps a i (variables_of F (Theory.copy_of copies a)) wider (c.1 a k).1
 
     by-node : (x : Node) → tree_of F i ≡ node_tree (tree_of F) x → node_at F i ≡ x → Good F Q (C x) (NodeIn (After V F ps i) F) (Theory.copy_node p rs copies x)
     by-node node.True t at = good-make F (After V F ps i) Q (C node.True) whole node.True p (λ n c. (tt, tt))
@@ -194,7 +194,7 @@ good-copy-node F V Q whole p ps rs re copies i x at = by-node x (whole.trees i �
     by-node (node.Exists v a) t at =
         good-binds F Q (C (node.Exists v a)) (NodeIn (After V F ps i) F) (make_exists v (Theory.copy_of copies a) p)
         (good-exists F (After V F ps i) Q (λ n. C (node.Exists v a) n × BindsIn Q F n) whole v (Theory.copy_of copies a) p
-        (λ n c. (((c.0.1.0 a (inl refl)).0, after-bound V F ps a i v (variables_of F (Theory.copy_of copies a)) (λ u k apart. subst (λ r. ContainsByRecursion u (free_variables r)) (sym t) (contains-without u v (variables_of F a) k apart)) (c.0.1.0 a (inl refl)).1), c.1 i v a c.0.0 at)))
+        (λ n c. (((c.0.1 a (inl refl)).0, after-bound V F ps a i v (variables_of F (Theory.copy_of copies a)) (λ u k apart. subst (λ r. ContainsByRecursion u (free_variables r)) (sym t) (contains-without u v (variables_of F a) k apart)) (c.0.1 a (inl refl)).1), c.1 i v a c.0.0 at)))
 
 -- ---- the nodes that are reached
 
@@ -218,7 +218,7 @@ copied-skip V F ps r copies k n out h c lt e =
 
 good-copy-nodes : (F : Nodes) (V Q : ℕ → Type 0) → IsWhole F → (p : Position) (ps : List ℕ) (rs : List (ℕ × Meaning)) → IsReplacing V F ps rs → (f : Nodes) → ((i : ℕ) → i < length f → node_at F i ≡ node_at f i) → (r : ℕ → Bool) → ((d c : ℕ) → r d ≡ true → ContainsByRecursion c (children (node_at f d)) → (c < d) × (r c ≡ true))
     → (len k end : ℕ) (copies : List (ℕ × ℕ)) → k + len ≡ end → end ≤ length f → Good F Q (λ n. (length f ≤ n) × CopiedBelow V F ps r copies k n × TruthsIn V F rs n) (λ new n. CopiedBelow V F ps r new end n) (Theory.copy_nodes p rs f copies (filter r (range_with_len k len)))
-good-copy-nodes F V Q whole p ps rs re f front r closed zero k end copies at le = good-give F Q (λ n. (length f ≤ n) × CopiedBelow V F ps r copies k n × TruthsIn V F rs n) (λ new n. CopiedBelow V F ps r new end n) copies (λ n c. let here : k ≡ end = omega arith in subst (λ m. CopiedBelow V F ps r copies m n) here c.1.0)
+good-copy-nodes F V Q whole p ps rs re f front r closed zero k end copies at le = good-give F Q (λ n. (length f ≤ n) × CopiedBelow V F ps r copies k n × TruthsIn V F rs n) (λ new n. CopiedBelow V F ps r new end n) copies (λ n c. let here : k ≡ end = omega arith in subst (λ m. CopiedBelow V F ps r copies m n) here c.1)
 good-copy-nodes F V Q whole p ps rs re f front r closed (suc len) k end copies at le = by-test (λ new. good-copy-nodes F V Q whole p ps rs re f front r closed len (k + 1) end new (omega arith) le) (r k) refl
   where
     C : ℕ → Type 0
@@ -229,12 +229,12 @@ good-copy-nodes F V Q whole p ps rs re f front r closed (suc len) k end copies a
 
     by-test : ((new : List (ℕ × ℕ)) → Good F Q (λ n. (length f ≤ n) × CopiedBelow V F ps r new (k + 1) n × TruthsIn V F rs n) (λ new n. CopiedBelow V F ps r new end n) (Theory.copy_nodes p rs f new (filter r (range_with_len (k + 1) len))))
         → (t : Bool) → r k ≡ t → Good F Q C (λ new n. CopiedBelow V F ps r new end n) (Theory.copy_nodes p rs f copies (if t then k ∷ filter r (range_with_len (k + 1) len) else filter r (range_with_len (k + 1) len)))
-    by-test go false out = good-weaken F Q (λ n. (length f ≤ n) × CopiedBelow V F ps r copies (k + 1) n × TruthsIn V F rs n) C (λ new n. CopiedBelow V F ps r new end n) (λ new n. CopiedBelow V F ps r new end n) (Theory.copy_nodes p rs f copies (filter r (range_with_len (k + 1) len))) (λ n c. (c.0, (copied-skip V F ps r copies k n out c.1.0, c.1.1))) (λ x n k. k) (go copies)
+    by-test go false out = good-weaken F Q (λ n. (length f ≤ n) × CopiedBelow V F ps r copies (k + 1) n × TruthsIn V F rs n) C (λ new n. CopiedBelow V F ps r new end n) (λ new n. CopiedBelow V F ps r new end n) (Theory.copy_nodes p rs f copies (filter r (range_with_len (k + 1) len))) (λ n c. (c.0, copied-skip V F ps r copies k n out c.1, c.2)) (λ x n k. k) (go copies)
     by-test go true hit =
-        good-then F Q C C (NodeIn (After V F ps k) F) (λ new n. CopiedBelow V F ps r new end n) (Theory.copy_node p rs copies (node_at f k)) (λ j. Theory.copy_nodes p rs f ((k, j) ∷ copies) (filter r (range_with_len (k + 1) len))) (λ n n' le c. (omega (arith, c.0), (copied-lasts V F ps r copies k n n' le c.1.0, truths-last V F rs n n' le c.1.1))) (λ n c. c)
+        good-then F Q C C (NodeIn (After V F ps k) F) (λ new n. CopiedBelow V F ps r new end n) (Theory.copy_node p rs copies (node_at f k)) (λ j. Theory.copy_nodes p rs f ((k, j) ∷ copies) (filter r (range_with_len (k + 1) len))) (λ n n' le c. (omega (arith, c.0), copied-lasts V F ps r copies k n n' le c.1, truths-last V F rs n n' le c.2)) (λ n c. c)
         (good-weaken F Q (λ n. (k < n) × Copied V F ps copies (node_at f k) n × TruthsIn V F rs n) C (NodeIn (After V F ps k) F) (NodeIn (After V F ps k) F) (Theory.copy_node p rs copies (node_at f k))
-        (λ n c. (omega (arith, c.0), (λ d h. let less = closed k d hit h in c.1.0 d less.0 less.1, c.1.1))) (λ x n k. k) (good-copy-node F V Q whole p ps rs re copies k (node_at f k) (front k (omega arith))))
-        (λ j. good-weaken F Q (λ n. (length f ≤ n) × CopiedBelow V F ps r ((k, j) ∷ copies) (k + 1) n × TruthsIn V F rs n) (λ n. C n × NodeIn (After V F ps k) F j n) (λ new n. CopiedBelow V F ps r new end n) (λ new n. CopiedBelow V F ps r new end n) (Theory.copy_nodes p rs f ((k, j) ∷ copies) (filter r (range_with_len (k + 1) len))) (λ n c. (c.0.0, (copied-next V F ps r copies k j n c.0.1.0 c.1, c.0.1.1))) (λ x n k. k) (go ((k, j) ∷ copies)))
+        (λ n c. (omega (arith, c.0), λ d h. let less = closed k d hit h in c.1 d less.0 less.1, c.2)) (λ x n k. k) (good-copy-node F V Q whole p ps rs re copies k (node_at f k) (front k (omega arith))))
+        (λ j. good-weaken F Q (λ n. (length f ≤ n) × CopiedBelow V F ps r ((k, j) ∷ copies) (k + 1) n × TruthsIn V F rs n) (λ n. C n × NodeIn (After V F ps k) F j n) (λ new n. CopiedBelow V F ps r new end n) (λ new n. CopiedBelow V F ps r new end n) (Theory.copy_nodes p rs f ((k, j) ∷ copies) (filter r (range_with_len (k + 1) len))) (λ n c. (c.0.0, copied-next V F ps r copies k j n c.0.1 c.1, c.0.2)) (λ x n k. k) (go ((k, j) ∷ copies)))
 
 -- copies only add, whatever they are copies of
 all-true : {A : Type 0} (xs : List A) → AllByRecursion (λ (x : A). ⊤) xs
@@ -280,7 +280,7 @@ good-copy F V Q whole p ps rs re body w w' x e = (
   λ c front fresh binds.
       let front' : IsFront w.formula F = front-trans w.formula w'.formula F grown.front front in
       let r = (copied front' c.0.0) w w' x e in
-      let d = r.1 (omega arith, (λ i lt y. absurd (omega arith), c.1)) front fresh binds in
+      let d = r.1 (omega arith, λ i lt y. absurd (omega arith), c.1) front fresh binds in
       (d.0, (d.1.0, parameters-gone V (λ u. ContainsByRecursion u (variables_of F body)) ps (variables_of F x) (λ u k. member-has (λ v. V v ⊎ ContainsByRecursion v ps) (variables_of F body) c.0.1 u k) d.1.1)),
 )
   where
@@ -355,11 +355,11 @@ forms-of V F (r ∷ rs) n h = (of r.1 h.0, forms-of V F rs n h.1)
 
 truths-of : (V : ℕ → Type 0) (F : Nodes) (rs : List (ℕ × Meaning)) (n : ℕ) → ArgumentsFor V F rs n → TruthsIn V F rs n
 truths-of V F [] n h v i e = absurd cc
-truths-of V F (r ∷ rs) n h v i e = by-name (r.0 == v) e
+truths-of V F (r ∷ rs) n h v i e = by-name (truths-of V F rs n h.1 v i) (r.0 == v) e
   where
-    by-name : (b : Bool) → (if b then Some r.1 else Theory.replacement rs v) ≡ Some (Truth i) → NodeIn V F i n
-    by-name true k = let same : r.1 ≡ Truth i = cc in subst (λ (m : Meaning). MeaningIn V F m n) same h.0
-    by-name false k = truths-of V F rs n h.1 v i k
+    by-name : (Theory.replacement rs v ≡ Some (Truth i) → NodeIn V F i n) → (b : Bool) → (if b then Some r.1 else Theory.replacement rs v) ≡ Some (Truth i) → NodeIn V F i n
+    by-name go true k = let same : r.1 ≡ Truth i = cc in subst (λ (m : Meaning). MeaningIn V F m n) same h.0
+    by-name go false k = go k
 
 arguments-replace : (F : Nodes) (V : ℕ → Type 0) (ps : List ℕ) (rs : List (ℕ × Meaning)) (n : ℕ) → Replaced ps rs → ArgumentsFor V F rs n → IsReplacing V F ps rs
 arguments-replace F V ps rs n all h S v s = subst (λ us. FormIn (λ u. V u ⊎ (S u × (ContainsByRecursion u us → ⊥))) (Theory.replacing rs v) 0) all (replaces V S rs (forms-of V F rs n h) v s)

@@ -1,5 +1,5 @@
 -- Applications of definitions keep the work sound.
-use Rattle.std.proofs.Common.{◌≡◌, inl, inr, ℕ, ◌<◌, ◌≤◌, ◌==◌, Bool, true, false, if◌then◌else◌, List, [], ◌∷◌, length, arith, refl, sym, ap, subst}
+use Rattle.std.proofs.Common.{◌≡◌, inl, inr, ℕ, ◌<◌, ◌≤◌, ◌==◌, Bool, true, false, if◌then◌else◌, List, [], ◌∷◌, length, arith, refl, sym, ap, ◌∙◌, subst}
 use Rattle.std.proofs.lemmas.Bool.Decides.{nat_tests}
 use Rattle.std.specs.Prelude.{Option, Some, None, ℤ, pos, ◌-ℤ◌}
 use Rattle.std.specs.List.{AllByRecursion}
@@ -73,7 +73,9 @@ keeps-substituted p rs f (t ∷ ts) w re h ints =
 
 -- a truth value in the place of a variable of sort Bool, or the variable's own atom
 pub truth-copied : (p : Position) (rs : List (ℕ × Meaning)) (v : ℕ) → Theory.replacement rs v ≡ None → Theory.copied_atom p rs (Mod 2) ((v, pos 1) ∷ []) (pos 1) (Theory.truth_for rs ((v, pos 1) ∷ [])) ≡ make (truth_atom v) p
-truth-copied p rs v e = rw e refl
+truth-copied p rs v e =
+    ap (λ o. Theory.copied_atom p rs (Mod 2) ((v, pos 1) ∷ []) (pos 1) (Theory.node_for o)) e
+    ∙ ap (λ o. (form (form_scale (pos 1) (Theory.form_for v o)) p >>= λ g. form (form_sum (constant_form (pos 0)) g) p >>= λ h. give h) >>= λ g. Theory.atom p (Mod 2) g.terms (Theory.new_constant (Mod 2) (pos 1 -ℤ g.constant))) e
 
 keeps-truth-copied : Laws → (p : Position) (rs : List (ℕ × Meaning)) (v : ℕ) (w : Work) → AreIn rs w → HasSort w.given v sort.Bool → Keeps IsNodeIn (Theory.copied_atom p rs (Mod 2) ((v, pos 1) ∷ []) (pos 1) (Theory.truth_for rs ((v, pos 1) ∷ []))) w
 keeps-truth-copied laws p rs v w re has = by-replacement (Theory.replacement rs v) refl

@@ -1,5 +1,5 @@
 -- Steps of elaboration that keep the work sound, one after the other.
-use Rattle.std.proofs.Common.{◌≡◌, ℕ, ◌+◌, ◌<◌, Bool, true, false, List, [], ◌∷◌, ◌++◌, length, arith, refl, sym, ap, subst, append-nil, length-append}
+use Rattle.std.proofs.Common.{◌≡◌, ℕ, ◌+◌, ◌<◌, Bool, true, false, List, [], ◌∷◌, ◌++◌, length, arith, refl, sym, ap, subst, length-append}
 use Rattle.std.specs.Prelude.{Result, Ok, Err}
 use Rattle.std.specs.List.{AllByRecursion}
 use Rattle.pt_formula.specs.declared.node.Position.{Position}
@@ -10,7 +10,7 @@ use Rattle.pt_terms.specs.Sorts.{HasSort}
 use Rattle.pt_terms.specs.Elaboration.{Work, Elab, give, refuse, follow, ◌>>=◌, require, fresh, each}
 use Rattle.pt_terms.specs.Gives.{Grows}
 use Rattle.pt_terms.specs.Keeps.{IsSoundWork, Keeps}
-use Rattle.pt_terms.proofs.SortLemmas.{has-last, all-sorted-more}
+use Rattle.pt_terms.proofs.SortLemmas.{has-last, all-sorted-more, fresh-grows}
 use Rattle.pt_terms.proofs.BelowLemmas.{grows_same, grows_trans}
 
 -- what holds of the work holds while it grows
@@ -69,7 +69,7 @@ keeps-fresh s w sound w' v e =
     longer = length-append w.given (s ∷ [])
 
     grows : Grows w next
-    grows = record { nodes = ([], sym (append-nil w.formula)); count = omega arith; sorts = (s ∷ [], refl); given = omega (arith, longer) }
+    grows = fresh-grows w s
 
 -- one step for each, in order
 pub keeps-each : {A B : Type 0} (C : A → Work → Type 0) (P : B → Work → Type 0) (f : A → Elab B) → Lasts C → Lasts P → ((x : A) (u : Work) → C x u → Keeps P (f x) u) → (xs : List A) (w : Work) → All C xs w → Keeps (All P) (each f xs) w

@@ -1,5 +1,5 @@
 -- Sorts of variables: they are in range, and they stay while the work grows.
-use Rattle.std.proofs.Common.{◌≡◌, inl, inr, ℕ, zero, suc, ◌<◌, List, [], ◌∷◌, ◌++◌, length, refl, sym, ap, subst, ◌∙◌}
+use Rattle.std.proofs.Common.{◌≡◌, inl, inr, ℕ, zero, suc, ◌+◌, ◌<◌, ◌^◌, List, [], ◌∷◌, ◌++◌, length, arith, refl, sym, ap, subst, ◌∙◌, append-nil, length-append}
 use Rattle.std.specs.Prelude.{Some, None, slice_get}
 use Rattle.std.proofs.lemmas.Option.{slice_get_within}
 use Rattle.pt_formula.specs.declared.node.Node.{Node}
@@ -8,12 +8,12 @@ use Rattle.pt_formula.specs.declared.node.Position.{Position}
 use Rattle.pt_formula.specs.Forms.{Term}
 use Rattle.pt_formula.specs.Formulas.{node_at}
 use Rattle.pt_atoms.specs.declared.Kind.{Kind}
-use Rattle.std.specs.Prelude.{ℤ}
+use Rattle.std.specs.Prelude.{ℤ, pos}
 use Rattle.pt_terms.specs.declared.meaning.Sort.{Sort}
 use Rattle.pt_terms.specs.declared.meaning.Sort.TheVariants as sort
 use Rattle.pt_terms.specs.Elaboration.{Work}
 use Rattle.pt_terms.specs.Gives.{Grows}
-use Rattle.pt_terms.specs.Sound.{AreTermsBelow}
+use Rattle.pt_terms.specs.Sound.{AreTermsBelow, IsKept}
 use Rattle.pt_terms.specs.Sorts.{HasSort, HaveSorts, AreIntegers, IsSorted, AreSorted, truth_atom}
 
 pub has-below : (given : List Sort) (v : ℕ) (s : Sort) → HasSort given v s → v < length given
@@ -70,12 +70,29 @@ terms-in _ = []
 
 -- the variables of a sorted atom have been given out
 pub sorted-below : (given : List Sort) (kind : Kind) (ts : List Term) (c : ℤ) → IsSorted given (node.Atom kind ts c) → AreTermsBelow (length given) ts
+  unfolding terms-in
 sorted-below given kind ts c (inl h) = integers-below given ts h
 sorted-below given kind ts c (inr h) = subst (AreTermsBelow (length given)) (sym (ap terms-in h.2)) (has-below given h.0 sort.Bool h.1, tt)
 
 -- a sort is not the other
 pub not-both : {X : Type 0} (given : List Sort) (v : ℕ) → HasSort given v sort.Int → HasSort given v sort.Bool → X
 not-both given v h k = let both : ◌≡◌ {A = _} (Some sort.Int) (Some sort.Bool) = sym h ∙ k in absurd cc
+
+-- the first variable of an atom tells its kind
+same-first : (kind : Kind) (ts : List Term) (c : ℤ) (t : Term) (rest : List Term) (v : ℕ) → ts ≡ t ∷ rest → node.Atom kind ts c ≡ truth_atom v → t.0 ≡ v
+  unfolding terms-in
+same-first kind ts c t rest v is same =
+    let both : ◌≡◌ {A = List Term} (t ∷ rest) ((v, pos 1) ∷ []) = sym is ∙ ap terms-in same in
+    let head : ◌≡◌ {A = Term} t (v, pos 1) = cc in
+    ap (λ (u : Term). u.0) head
+
+pub integer-atom : (given : List Sort) (kind : Kind) (ts : List Term) (c : ℤ) (t : Term) (rest : List Term) → ts ≡ t ∷ rest → HasSort given t.0 sort.Int → IsSorted given (node.Atom kind ts c) → AreIntegers given ts
+integer-atom given kind ts c t rest is int (inl h) = h
+integer-atom given kind ts c t rest is int (inr h) = not-both given t.0 int (subst (λ v. HasSort given v sort.Bool) (sym (same-first kind ts c t rest h.0 is h.2)) h.1)
+
+pub truth-atom : (given : List Sort) (kind : Kind) (ts : List Term) (c : ℤ) (t : Term) (rest : List Term) → ts ≡ t ∷ rest → HasSort given t.0 sort.Bool → IsSorted given (node.Atom kind ts c) → node.Atom kind ts c ≡ truth_atom t.0
+truth-atom given kind ts c t rest is truth (inl h) = not-both given t.0 (subst (AreIntegers given) is h).0 truth
+truth-atom given kind ts c t rest is truth (inr h) = h.2 ∙ ap truth_atom (sym (same-first kind ts c t rest h.0 is h.2))
 
 -- one more node
 pub appended-sorted : (given : List Sort) (f : List (Node × Position)) (n : Node) (p : Position) → AreSorted f given → IsSorted given n → AreSorted (f ++ (n, p) ∷ []) given
@@ -86,3 +103,20 @@ appended-sorted given (x ∷ f) n p h k (suc i) = appended-sorted given f n p (�
 
 pub all-sorted-more : (v w : Work) (f : List (Node × Position)) → Grows v w → AreSorted f v.given → AreSorted f w.given
 all-sorted-more v w f g h = λ i. sorted-more v w (node_at f i) g (h i)
+
+-- one more variable
+pub fresh-grows : (w : Work) (s : Sort) → Grows w (record { formula = w.formula; given = w.given ++ s ∷ [] })
+fresh-grows w s = record { nodes = ([], sym (append-nil w.formula)); count = omega arith; sorts = (s ∷ [], refl); given = omega (arith, length-append w.given (s ∷ [])) }
+
+pub kept-fresh : (f : List (Node × Position)) (given : List Sort) (s : Sort) → length given + 1 < 2 ^ 32 → IsKept f given → IsKept f (given ++ s ∷ [])
+kept-fresh f given s few h = record {
+  below = record {
+    free = λ i v lt has. let old : v < length given = h.below.free i v lt has in omega (arith, longer);
+    bound = λ i v a at. let old : v < length given = h.below.bound i v a at in omega (arith, longer);
+  };
+  sorted = all-sorted-more (record { formula = f; given = given }) (record { formula = f; given = given ++ s ∷ [] }) f (fresh-grows (record { formula = f; given = given }) s) h.sorted;
+  few = omega (arith, longer, few);
+}
+  where
+    longer : length (given ++ s ∷ []) ≡ length given + 1
+    longer = length-append given (s ∷ [])

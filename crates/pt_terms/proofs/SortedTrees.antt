@@ -21,7 +21,7 @@ asks-node : (given : List Sort) (t : ℕ → Tree) (n : Node) → IsSorted given
 asks-node given t node.True s h = tt
 asks-node given t node.False s h = tt
 asks-node given t (node.Atom kind ts c) (inl s) h = inl (no-truth given ts s)
-asks-node given t (node.Atom kind ts c) (inr s) h = inr (s.0, ap (node_tree t) s.1.1)
+asks-node given t (node.Atom kind ts c) (inr s) h = inr (s.0, ap (node_tree t) s.2)
 asks-node given t (node.Not a) s h = h a
 asks-node given t (node.And a b) s h = (h a, h b)
 asks-node given t (node.Or a b) s h = (h a, h b)

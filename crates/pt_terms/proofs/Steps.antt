@@ -43,7 +43,7 @@ module _ {A : Type 0} (f : A → Elab ℕ) (p : Position) (so_far : Option ℕ) 
   part_goes_on j v ok = sym (given_then (run f p so_far xs) (λ j. run f p j ys >>= close p) w v j ok) ∙ sym (run_append f p so_far xs ys w) ∙ told
 
 -- one more answer in front of the others
-more_found : {B : Type 0} (found : List B) (y : B) (r : Result (List B × Work) ReadRefusal) → follow (follow r (λ ys. give (y ∷ ys))) (λ ys. give (found ++ ys)) ≡ follow r (λ ys. give ((found ++ y ∷ []) ++ ys))
+pub more_found : {B : Type 0} (found : List B) (y : B) (r : Result (List B × Work) ReadRefusal) → follow (follow r (λ ys. give (y ∷ ys))) (λ ys. give (found ++ ys)) ≡ follow r (λ ys. give ((found ++ y ∷ []) ++ ys))
 more_found found y (Ok r) = ap (λ ys. Ok (ys, r.1)) (sym (append_assoc found (y ∷ []) r.0))
 more_found found y (Err e) = refl
 

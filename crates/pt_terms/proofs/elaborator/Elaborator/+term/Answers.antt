@@ -57,3 +57,12 @@ bindings-loop-e-preserved t c =
       same = c.in_ok-name.ensures.env ∙ c.loop-e.invariant.same;
       env = rw c.in_ok-name.ensures.env (env_more c.loop-e.self c.binding.new.self c.loop-e.env grows c.loop-e.invariant.env);
     }
+
+pub bindings-returns-in_err-push-clause-grows : goal.bindings-returns-in_err-push-clause-grows
+bindings-returns-in_err-push-clause-grows t c = grows_trans c.args.self.now c.loop-e.self c.binding.new.self c.loop-e.invariant.grows c.in_ok-name.ensures.grows
+
+pub let_parts-enter-requires-clause-env : goal.let_parts-enter-requires-clause-env
+let_parts-enter-requires-clause-env t c = rw c.in_ok-names.ensures.env (env_more c.args.self.now c.bindings.new.self c.args.env.now c.in_ok-names.ensures.grows c.requires.env)
+
+pub let_parts-returns-clause-grows : goal.let_parts-returns-clause-grows
+let_parts-returns-clause-grows t c = ?
