@@ -1,14 +1,15 @@
 -- First positions in lists that are put together, and an index of them.
-use Rattle.std.proofs.Common.{◌≡◌, ℕ, ◌+◌, ◌≤◌, Bool, true, false, not, cond, List, [], ◌∷◌, ◌++◌, length, nat_eq, nat_lt, refl, ap, sym, ◌∙◌, position, Some, None, Option, option_map, arith, length-append, Result, Ok, Err, OnOk}
+use Rattle.std.proofs.Common.{◌≡◌, ◌⊎◌, inl, inr, ℕ, ◌+◌, ◌<◌, ◌≤◌, Bool, true, false, not, cond, List, [], ◌∷◌, ◌++◌, length, take, drop, nat_eq, nat_lt, refl, ap, sym, ◌∙◌, position, Some, None, Option, option_map, arith, length-append, Result, Ok, Err, OnOk}
 use Rattle.std.specs.Option.{option_or}
 use Rattle.std.specs.Map.{lookup}
 use Rattle.std.specs.List.{position_or_len}
 use Rattle.std.specs.Cmp.Lexicographic.{same_text, nat_list_eq_equiv}
 use Rattle.std.proofs.lemmas.Bool.Decides.{nat_tests}
+use Rattle.std.proofs.lemmas.List.{take-append-drop}
 use Rattle.std.proofs.lemmas.List.Sums.{prefix_len-le-length}
 use Rattle.std.proofs.lemmas.List.Folds.{prefix_len-append}
 use Rattle.pt_sets.specs.Lists.{code_eq}
-use Rattle.pt_store.specs.Shards.{IsIndex}
+use Rattle.pt_store.specs.Shards.{IsIndex, Begins}
 
 -- where a number in the second of two ranges stands in both together
 later_range : (first second at : ℕ) → cond (nat_lt (first + at) (first + second)) (Some (first + at)) None ≡ option_map (λ i. first + i) (cond (nat_lt at second) (Some at) None)
@@ -35,6 +36,32 @@ position-append p xs ys =
     let within = prefix_len-le-length (λ x. not (p x)) xs in
     ap (λ n. cond (nat_lt (position_or_len p (xs ++ ys)) n) (Some (position_or_len p (xs ++ ys))) None) (length-append xs ys)
     ∙ both_ranges (length xs) (length ys) (position_or_len p xs) (position_or_len p ys) (position_or_len p (xs ++ ys)) within (prefix_len-append (λ x. not (p x)) xs ys)
+
+-- the first position in two lists is that in the first list, or stands behind it
+pub position-parts : {X : Type 0} (p : X → Bool) (xs ys : List X) (i : ℕ) → position p (xs ++ ys) ≡ Some i → (position p xs ≡ Some i) ⊎ (length xs ≤ i)
+position-parts p xs ys i found = by_parts (position p xs) (position p ys) (sym (position-append p xs ys) ∙ found)
+  where
+    by_parts : (one two : Option ℕ) → option_or one (option_map (λ k. length xs + k) two) ≡ Some i → (one ≡ Some i) ⊎ (length xs ≤ i)
+    by_parts (Some k) two h = inl h
+    by_parts None (Some k) h = let behind : length xs + k ≡ i = cc in inr (omega arith)
+    by_parts None None h = cc
+
+-- a front that reaches past the first position has it
+pub position-front : {X : Type 0} (p : X → Bool) (xs : List X) (n i : ℕ) → position p xs ≡ Some i → i < length (take n xs) → position p (take n xs) ≡ Some i
+position-front p xs n i found reaches =
+    elim (position-parts p (take n xs) (drop n xs) i (ap (position p) (take-append-drop n xs) ∙ found)) [
+      | inl here ↦ here
+      | inr behind ↦ absurd (omega arith)
+    ]
+
+-- where a list that begins another has no first position, that of the other stands behind it
+pub position-behind : (q : List ℕ) (first whole : List (List ℕ)) (i : ℕ) → Begins first whole → position (code_eq q) first ≡ None → position (code_eq q) whole ≡ Some i → length first ≤ i
+position-behind q first whole i begins absent found =
+    let split : first ++ drop (length first) whole ≡ whole = ap (λ codes. codes ++ drop (length first) whole) (sym begins) ∙ take-append-drop (length first) whole in
+    elim (position-parts (code_eq q) first (drop (length first) whole) i (ap (position (code_eq q)) split ∙ found)) [
+      | inl here ↦ let differ = sym absent ∙ here in cc
+      | inr behind ↦ behind
+    ]
 
 -- one element is first at 0, or is not there
 position-single : {X : Type 0} (p : X → Bool) (x : X) (before : ℕ) → option_map (λ i. before + i) (position p (x ∷ [])) ≡ cond (p x) (Some before) None

@@ -1,8 +1,8 @@
 -- A store for several threads, by a lock for each shard.
-use Rattle.std.specs.Prelude.{◌≡◌, ℕ, ◌<◌, ◌≤◌, List, All, length, map, slice_index_or}
+use Rattle.std.specs.Prelude.{◌≡◌, ℕ, ◌+◌, ◌<◌, ◌≤◌, List, Option, Some, None, All, length, map, position, slice_index_or}
 use Rattle.pt_turns.specs.Turns.{LockName, IsOf, IsFree, Codes}
 use Rattle.pt_turns.specs.Turns as turns
-use Rattle.pt_sets.specs.Lists.{Lists, IsWithin}
+use Rattle.pt_sets.specs.Lists.{Lists, IsWithin, code_eq}
 use Rattle.pt_sets.specs.declared.Place.{Place}
 use Rattle.pt_store.specs.Shards.{Begins}
 use Rattle.pt_store.specs.declared.shard_turn.ShardPass.{ShardPass}
@@ -32,6 +32,11 @@ pub record Held (lock : LockName) (pass : ShardPass) : Type 0 where
 pub record Holds (lock : LockName) (pass : ShardPass) : Type 0 where
   pub of : IsOf lock pass.turn
   pub slot : (list : Codes) × turns.Holds list pass.turn × Begins pass.turn.codes list × Begins pass.list list × (length list ≤ lock.limit)
+
+-- a list shows a code that was interned: it ends with the code's first position; or it is at the limit, and lacks the code
+abbrev pub IsShown : ℕ → List ℕ → List (List ℕ) → Option ℕ → Type 0
+IsShown limit code list (Some index) = (position (code_eq code) list ≡ Some index) × (index + 1 ≡ length list)
+IsShown limit code list None = (position (code_eq code) list ≡ None) × (length list ≡ limit)
 
 -- this holds of each lock and the pass of its shard
 pub record AtEach (P : LockName → ShardPass → Type 0) (locks : List LockName) (passes : List ShardPass) : Type 0 where

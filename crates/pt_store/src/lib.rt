@@ -3,6 +3,7 @@
 
 mod fault;
 mod hashed;
+mod in_turns;
 mod indexed;
 mod laws;
 mod local;
@@ -15,6 +16,7 @@ mod traits;
 
 pub use fault::{JoinRefused, NoMemory, StoreFault};
 pub use hashed::HashedCode;
+pub use in_turns::InTurns;
 pub use laws::{
     agreeing_lists_begin_one_another, first_positions_stay, full_lists_stay_full,
     lists_are_joined_shard_by_shard,

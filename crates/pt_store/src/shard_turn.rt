@@ -1,8 +1,9 @@
 // A pass of one shard of a shared store, and its turn at the shard's lock.
-ghost use Rattle.std.specs.Prelude.{◌≡◌, ◌<◌, ◌≤◌, [], ◌∷◌, ◌++◌, length, OnOk, OnErr, IfOk};
+ghost use Rattle.std.specs.Prelude.{◌≡◌, ◌<◌, ◌≤◌, [], ◌∷◌, ◌++◌, length, position, take, OnOk, OnErr, IfOk, None};
+ghost use Rattle.pt_sets.specs.Lists.{code_eq};
 ghost use Rattle.pt_turns.specs.Turns.{LockName, IsOf};
 ghost use Rattle.pt_store.specs.Shards.{Begins, JoinsLists};
-ghost use Rattle.pt_store.specs.Shared.{Waits, Holds, Held, Taken};
+ghost use Rattle.pt_store.specs.Shared.{Waits, Holds, Held, Taken, IsShown};
 
 use crate::fault::NoMemory;
 use crate::hashed::HashedCode;
@@ -69,6 +70,31 @@ impl ShardPass {
         pushed
     }
 
+    /// Interns a code that the pass does not show, in a turn of its own. The pass then shows the shard's list up to the
+    /// code's first index. None where the shard's list is at the limit.
+    pub(crate) fn intern<R: Wait>(
+        &mut self,
+        rt: &R,
+        lock: &ShardLock<Shard>,
+        limit: u32,
+        code: HashedCode,
+    ) -> Result<Option<u32>, NoMemory>
+        requires waits { Waits lock.now self.old }
+        requires limit { lock.now.limit ≡ limit }
+        requires bound { limit ≤ MAX_CODES }
+        requires absent { position (code_eq code) self.old.list ≡ None }
+        ensures waits { Waits lock.now self.new }
+        ensures grows { Begins self.old.list self.new.list }
+        ensures ok { IfOk result (IsShown limit code self.new.list) }
+    {
+        lock.take(rt, &mut self.turn);
+        let mut kept = lock.take_list(&mut self.turn);
+        let interned = intern_behind(&mut self.list, &mut kept, limit, code);
+        lock.put_list(&mut self.turn, kept);
+        lock.release(&mut self.turn);
+        interned
+    }
+
     /// A second pass of the same codes.
     pub(crate) fn split(
         &mut self,
@@ -99,6 +125,37 @@ impl ShardPass {
     }
 }
 
+/// Interns a code in a list that begins with another, which lacks the code, and puts behind the other all up to the code's
+/// first index. None where the longer list is at the limit.
+fn intern_behind(
+    list: &mut Shard,
+    longer: &mut Shard,
+    limit: u32,
+    code: HashedCode,
+) -> Result<Option<u32>, NoMemory>
+    requires begins { Begins list.old longer.old }
+    requires within { length longer.old ≤ limit }
+    requires bound { limit ≤ MAX_CODES }
+    requires absent { position (code_eq code) list.old ≡ None }
+    ensures grows { Begins list.old list.new }
+    ensures longer { Begins longer.old longer.new }
+    ensures begins { Begins list.new longer.new }
+    ensures within { length longer.new ≤ limit }
+    ensures ok { IfOk result (IsShown limit code list.new) }
+{
+    if let Some(index) = longer.find_hashed(&code) {
+        show(list, longer, index + 1)?;
+        return Ok(Some(index));
+    }
+    catch_up(list, longer)?;
+    let count = longer.len();
+    if count >= limit {
+        return Ok(None);
+    }
+    list.push_both(longer, code)?;
+    Ok(Some(count))
+}
+
 /// Puts the codes of the longer list behind the shorter one, which begins it.
 fn catch_up(list: &mut Shard, longer: &Shard) -> Result<(), NoMemory>
     requires { Begins list.old longer.now }
@@ -106,7 +163,20 @@ fn catch_up(list: &mut Shard, longer: &Shard) -> Result<(), NoMemory>
     ensures grows { Begins list.old list.new }
     ensures within { Begins list.new longer.now }
 {
-    for index in list.len()..longer.len() {
+    show(list, longer, longer.len())
+}
+
+/// Puts the codes of the longer list behind the shorter one, which begins it, until it has so many.
+fn show(list: &mut Shard, longer: &Shard, count: u32) -> Result<(), NoMemory>
+    requires begins { Begins list.old longer.now }
+    requires more { length list.old ≤ count }
+    requires within { count ≤ length longer.now }
+    requires bound { count ≤ MAX_CODES }
+    ensures ok { OnOk result (list.new ≡ take count longer.now) }
+    ensures grows { Begins list.old list.new }
+    ensures within { Begins list.new longer.now }
+{
+    for index in list.len()..count {
         let code = longer.get(index).unwrap();
         list.push(code.try_clone()?)?;
     }

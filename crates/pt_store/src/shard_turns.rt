@@ -1,11 +1,11 @@
 // Passes of all shards, each with its lock, in order.
-ghost use Rattle.std.specs.Prelude.{◌≡◌, ◌<◌, ◌≤◌, All, length, position, option_map, OnOk, OnErr, IfOk};
+ghost use Rattle.std.specs.Prelude.{◌≡◌, ◌<◌, ◌≤◌, All, length, position, option_map, OnOk, OnErr, IfOk, None};
 ghost use Rattle.std.specs.Arc.{arc_value};
 ghost use Rattle.pt_turns.specs.Turns.{LockName};
 ghost use Rattle.pt_sets.specs.Lists.{Extends, code_at, list_of, code_eq};
-ghost use Rattle.pt_store.specs.Interning.{Joins};
+ghost use Rattle.pt_store.specs.Interning.{ChangesOnly, Joins};
 ghost use Rattle.pt_store.specs.Local.{push_code};
-ghost use Rattle.pt_store.specs.Shared.{Waits, Taken, Held, Holds, AtEach, lists_of, place_at};
+ghost use Rattle.pt_store.specs.Shared.{Waits, Taken, Held, Holds, IsShown, AtEach, lists_of, place_at};
 
 use crate::fault::NoMemory;
 use crate::hashed::HashedCode;
@@ -123,6 +123,29 @@ pub(crate) fn push_in(
     ensures err { OnErr result (lists_of passes.new.items ≡ lists_of passes.old.items) }
 {
     passes[shard as usize].push(&locks[shard as usize], code)
+}
+
+/// Interns a code that the pass of its shard does not show, in a turn at that shard alone. None where its list is at the
+/// limit.
+pub(crate) fn intern_in<R: Wait>(
+    rt: &R,
+    locks: &[ShardLock<Shard>],
+    passes: &mut Vec<ShardPass>,
+    shard: u32,
+    limit: u32,
+    code: HashedCode,
+) -> Result<Option<u32>, NoMemory>
+    requires waits { AtEach Waits locks.now passes.old.items }
+    requires shard { shard < length locks.now }
+    requires limits { All (λ (lock : LockName). lock.limit ≡ limit) locks.now }
+    requires limit { limit ≤ MAX_CODES }
+    requires absent { position (code_eq code) (list_of (lists_of passes.old.items) shard) ≡ None }
+    ensures waits { AtEach Waits locks.now passes.new.items }
+    ensures extends { Extends (lists_of passes.old.items) (lists_of passes.new.items) }
+    ensures elsewhere { ChangesOnly shard (lists_of passes.old.items) (lists_of passes.new.items) }
+    ensures ok { IfOk result (IsShown limit code (list_of (lists_of passes.new.items) shard)) }
+{
+    passes[shard as usize].intern(rt, &locks[shard as usize], limit, code)
 }
 
 /// The code at a place.

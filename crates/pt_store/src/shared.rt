@@ -11,8 +11,8 @@ use crate::hashed::HashedCode;
 use crate::shard::{MAX_CODES, Shard};
 use crate::shard_turn::ShardPass;
 use crate::shard_turns::{
-    catch_up_all, code_in, count_in, find_in, join_all, place_in, push_in, release_all, split_all,
-    take_all,
+    catch_up_all, code_in, count_in, find_in, intern_in, join_all, place_in, push_in, release_all,
+    split_all, take_all,
 };
 use crate::traits::{Codes, Interner, Spread};
 use pt_code::{Code, Place};
@@ -257,6 +257,48 @@ impl<S: Spread> Codes for SharedPass<S> {
 
     fn offers(&self) -> u64 {
         self.offers
+    }
+}
+
+impl<S: Spread> SharedPass<S> {
+    /// Interns a code in the list of its home. Where the pass does not show the code, it waits for a turn at that shard.
+    pub(crate) fn offer<R: Wait>(
+        &mut self,
+        rt: &R,
+        store: &SharedStore<S>,
+        code: Arc<Code>,
+    ) -> Result<Place, StoreFault>
+        requires { OwnsWaiting store.now self.old }
+        ensures kept { OwnsWaiting store.now self.new }
+        ensures extends { Extends (lists_of self.old.shards) (lists_of self.new.shards) }
+        ensures elsewhere { ChangesOnly (S.home (arc_value code) (length (lists_of self.old.shards))) (lists_of self.old.shards) (lists_of self.new.shards) }
+        ensures present { IfSome (find S.home (lists_of self.old.shards) (arc_value code)) (λ place. (result ≡ Ok place) × (self.new ≡ self.old)) }
+        ensures counted { IfNone (find S.home (lists_of self.old.shards) (arc_value code)) (self.new.offers ≡ one_more self.old.offers) }
+        ensures last { IfNone (find S.home (lists_of self.old.shards) (arc_value code)) (IfOk result (IsLast (lists_of self.new.shards))) }
+        ensures ok { IfOk result (λ place. find S.home (lists_of self.new.shards) (arc_value code) ≡ Some place) }
+        ensures err { IfErr result (RefusesFull S.home store.now.limit (lists_of self.new.shards) (arc_value code)) }
+    {
+        let shard = self.spread.shard(&code, self.shards());
+        let code = HashedCode::new(code);
+        if let Some(index) = find_in(self.shards.as_slice(), shard, &code) {
+            return Ok(Place { shard, index });
+        }
+        self.offers = self.offers.saturating_add(1);
+        let interned = intern_in(
+            rt,
+            store.locks.as_slice(),
+            &mut self.shards,
+            shard,
+            store.limit,
+            code,
+        )?;
+        match interned {
+            Some(index) => Ok(Place { shard, index }),
+            None => Err(StoreFault::Full {
+                shard,
+                count: store.limit,
+            }),
+        }
     }
 }
 

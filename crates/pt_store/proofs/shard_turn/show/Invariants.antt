@@ -1,9 +1,9 @@
 use Rattle.std.proofs.Common.{◌≡◌, ◌≤◌, length, take}
-use Rattle.pt_store.proofs.shard_turn.catch_up.Given as goal
+use Rattle.pt_store.proofs.shard_turn.show.Given as goal
 
 abbrev pub invariant-loop-index : goal.invariant-loop-index
 invariant-loop-index l = record {
   front : l.list ≡ take l.index l.longer;
   longer : length l.fn.list ≤ l.index;
-  within : l.index ≤ length l.longer;
+  within : l.index ≤ l.fn.count;
 }
