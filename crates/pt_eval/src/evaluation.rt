@@ -1,5 +1,5 @@
 // Evaluation of the roots of a formula.
-ghost use Rattle.std.specs.Prelude.{◌≡◌, ◌≢◌, ◌↔◌, ℕ, ◌+◌, ◌*◌, ◌<◌, ◌≤◌, length, slice_get, slice_index, Some, IfOk, IfErr, OnOk, IfSome, IfNone};
+ghost use Rattle.std.specs.Prelude.{◌≡◌, ◌≢◌, ◌↔◌, ℕ, ◌+◌, ◌*◌, ◌<◌, ◌≤◌, length, map, slice_get, slice_index, All, Some, IfOk, IfErr, OnOk, IfSome, IfNone};
 ghost use Rattle.std.specs.List.{AllByRecursion};
 ghost use Rattle.pt_sets.specs.Lists.{Extends};
 ghost use Rattle.pt_formula.specs.Costs.{NoneRefused};
@@ -10,14 +10,49 @@ ghost use Rattle.pt_eval.specs.Outcomes.{AreOutcomes, AreWritten, IsSettled, Ref
 
 use crate::fault::EvalFault;
 use crate::gate::Gate;
-use crate::level::evaluate_level;
+use crate::level::Level;
 use crate::levels::plan;
 use crate::outcome::Outcome;
 use pt_formula::{Formula, NodeId};
 use pt_handles::{Handle, longer_lists_know};
 use pt_store::{Codes, Interner, StoreFault};
+use pt_workers::{Alone, Working};
 use std::alloc::{AllocError, Global};
 use std::thread::Threads;
+
+/// As `evaluate_with` over a store for one thread: all work is done on the caller's thread.
+pub fn evaluate<I: Interner, G: Gate, R: Threads + Sync>(
+    rt: &R,
+    alloc: Global,
+    store: &I,
+    pass: &mut I::Pass,
+    formula: &Formula,
+    roots: &[NodeId],
+    bound: u32,
+    workers: u32,
+    gate: &G,
+) -> Result<Vec<Handle>, EvalFault>
+    requires owned { I.owns store.now pass.old }
+    requires roots { AllByRecursion (λ root. root < length formula.now) roots.now }
+    requires some { 0 < bound }
+    requires few { bound ≤ 65536 }
+    requires some_worker { 0 < workers }
+    requires few_workers { workers ≤ 16 }
+    ensures kept { I.owns store.now pass.new }
+    ensures extends { Extends (I.Pass.lists pass.old) (I.Pass.lists pass.new) }
+    ensures ok { IfOk result (λ handles. HaveSolutions I.Pass.home (I.Pass.lists pass.new) formula.now roots.now handles.items) }
+    ensures reached { OnOk result (KnowsReached I.Pass.home (I.Pass.lists pass.new) formula.now roots.now) }
+    ensures within { OnOk result (NoneRefused formula.now roots.now bound) }
+    ensures residuals { OnOk result (HaveFewResiduals formula.now roots.now bound) }
+    ensures err { IfErr result (RefusesRoots formula.now roots.now bound I.Pass.home (I.limit_of store.now) (I.Pass.lists pass.new)) }
+    ensures node { IfErr result (RefusesOneOf formula.now) }
+    ensures offers { I.Pass.offered pass.new ≤ I.Pass.offered pass.old + length formula.now * bound }
+{
+    let alone = Alone { store };
+    evaluate_with(
+        rt, alloc, &alone, pass, formula, roots, bound, workers, gate,
+    )
+}
 
 /// For each root a known handle of its solutions: the integer vectors over its free variables, in increasing order, one
 /// track each, at which it holds. After Ok the pass knows a handle of the solutions of each node that the roots reach.
@@ -25,7 +60,7 @@ use std::thread::Threads;
 /// The nodes that the roots reach are evaluated, each once: level by level, a leaf at level 0 and another node one level above
 /// its highest child, and those of one level by number. The bound, from 1 to 65,536, is that of every node. A node with a
 /// refused descendant is left out; all others are evaluated, also where one child already decides the answer. `gate` is told
-/// right before and right after each node's work. There are 1 to 16 workers; all work is done on the caller's thread.
+/// right before and right after each node's work. The store decides which of the 1 to 16 workers evaluates a node.
 ///
 /// Refuses for want of memory; with `Full` only where the list of that shard has as many codes as it may hold and the lists
 /// lack the solutions of a node that the roots reach whose cost, and that of each descendant, is within the bound; and with
@@ -34,7 +69,7 @@ use std::thread::Threads;
 /// pass extend the old ones, and at most the formula's length times the bound codes were offered.
 ///
 /// Besides the operations at the nodes the time is linear in the formula's length.
-pub fn evaluate<I: Interner, G: Gate, R: Threads + Sync>(
+pub fn evaluate_with<I: Working, G: Gate, R: Threads + Sync>(
     rt: &R,
     alloc: Global,
     store: &I,
@@ -63,7 +98,7 @@ pub fn evaluate<I: Interner, G: Gate, R: Threads + Sync>(
 {
     formula.is_formula();
     let rows = plan(alloc, formula, roots)?;
-    let outcomes = match evaluate_rows(rt, alloc, store, pass, formula, bound, gate, &rows) {
+    let outcomes = match evaluate_rows(rt, alloc, store, pass, formula, bound, workers, gate, &rows) {
         Ok(outcomes) => outcomes,
         Err(fault) => return Err(EvalFault::from(fault)),
     };
@@ -75,13 +110,14 @@ pub fn evaluate<I: Interner, G: Gate, R: Threads + Sync>(
 }
 
 /// The outcome of each node in the lists, evaluated list by list; of the others none yet.
-fn evaluate_rows<I: Interner, G: Gate, R: Threads + Sync>(
+fn evaluate_rows<I: Working, G: Gate, R: Threads + Sync>(
     rt: &R,
     alloc: Global,
     store: &I,
     pass: &mut I::Pass,
     formula: &Formula,
     bound: u32,
+    workers: u32,
     gate: &G,
     rows: &[Vec<NodeId>],
 ) -> Result<Vec<Outcome>, StoreFault>
@@ -89,6 +125,7 @@ fn evaluate_rows<I: Interner, G: Gate, R: Threads + Sync>(
     requires ordered { AreOrdered formula.now rows.now }
     requires some { 0 < bound }
     requires few { bound ≤ 65536 }
+    requires some_worker { 0 < workers }
     ensures kept { I.owns store.now pass.new }
     ensures extends { Extends (I.Pass.lists pass.old) (I.Pass.lists pass.new) }
     ensures outcomes { IfOk result (λ outcomes. AreOutcomes I.Pass.home (I.Pass.lists pass.new) formula.now bound outcomes.items) }
@@ -101,8 +138,15 @@ fn evaluate_rows<I: Interner, G: Gate, R: Threads + Sync>(
         return Err(StoreFault::NoMemory);
     };
     for row in rows {
-        match evaluate_level(rt, alloc, store, pass, formula, bound, gate, &outcomes, row) {
-            Ok(results) => write_results(&mut outcomes, row, &results),
+        let level = Level {
+            rt,
+            formula,
+            bound,
+            gate,
+            outcomes: &outcomes,
+        };
+        match store.work_all(rt, alloc, pass, &level, row, workers) {
+            Ok(told) => write_results(&mut outcomes, &told),
             Err(fault) => return Err(fault),
         }
     }
@@ -118,13 +162,12 @@ fn pending(alloc: Global, count: u32) -> Result<Vec<Outcome>, AllocError>
 }
 
 /// Puts each result at its node.
-fn write_results(outcomes: &mut Vec<Outcome>, nodes: &[NodeId], results: &[Outcome])
-    requires count { length results.now ≡ length nodes.now }
-    requires nodes { (k : ℕ) → k < length nodes.now → slice_index nodes.now k < length outcomes.old.items }
-    ensures { AreWritten nodes.now results.now (length nodes.now) outcomes.old.items outcomes.new.items }
+fn write_results(outcomes: &mut Vec<Outcome>, told: &[(NodeId, Outcome)])
+    requires { All (λ t. t.0 < length outcomes.old.items) told.now }
+    ensures { AreWritten (map (λ t. t.0) told.now) (map (λ t. t.1) told.now) (length told.now) outcomes.old.items outcomes.new.items }
 {
-    for (k, node) in nodes.iter().enumerate() {
-        outcomes[*node as usize] = results[k];
+    for (node, outcome) in told {
+        outcomes[*node as usize] = *outcome;
     }
 }
 

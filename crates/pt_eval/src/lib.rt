@@ -13,10 +13,11 @@ mod outcome;
 mod tables;
 mod tracks;
 
-pub use evaluation::evaluate;
+pub use evaluation::{evaluate, evaluate_with};
 pub use fault::EvalFault;
 pub use gate::{Gate, Open};
 pub use laws::{handles_of_solutions_are_widened_by_tracks, refusals_are_exact};
+pub use pt_workers::{Alone, Working};
 pub use tracks::track_map;
 
 #[cfg(test)]
