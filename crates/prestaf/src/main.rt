@@ -1,14 +1,16 @@
-//! The program: standard input to standard output, by `pt_main::run`.
+//! The program: standard input to standard output, by `pt_main::run` and `run_shared`.
 #![tactic(auto)]
 
 use pt_eval::Open;
 use pt_io::{RealSink, RealSource, Sink, Source};
-use pt_main::{Status, run};
-use pt_store::{LocalStore, Mixed};
+use pt_main::words::options;
+use pt_main::{Status, run, run_shared};
+use pt_store::{LocalStore, Mixed, SharedStore};
 use std::alloc::Global;
 use std::env;
 use std::io::ErrorKind;
 use std::process::ExitCode;
+use std::sync::Wait;
 use std::thread::Threads;
 
 const USAGE: &str =
@@ -44,8 +46,22 @@ fn words(rt: &HostRuntime) -> Result<Vec<String>, Status> {
     }
 }
 
-/// Answers the script of the source over a store of its own.
-fn answer<S: Source, K: Sink, R: Threads + Sync>(
+/// Answers the script of the source over a store of its own, which threads share where the words ask for several workers.
+fn answer<S: Source, K: Sink, R: Threads + Wait + Sync>(
+    rt: &R,
+    alloc: Global,
+    words: &[String],
+    source: &mut S,
+    sink: &mut K,
+) -> Status {
+    match options(words) {
+        Some(given) if given.workers > 1 => answer_shared(rt, alloc, words, source, sink),
+        _ => answer_alone(rt, alloc, words, source, sink),
+    }
+}
+
+/// Answers the script over a store for this thread.
+fn answer_alone<S: Source, K: Sink, R: Threads + Sync>(
     rt: &R,
     alloc: Global,
     words: &[String],
@@ -54,6 +70,20 @@ fn answer<S: Source, K: Sink, R: Threads + Sync>(
 ) -> Status {
     match LocalStore::new(alloc, SHARDS, MAX_CODES, Mixed) {
         Ok((store, mut pass)) => run(rt, alloc, words, source, sink, &Open, &store, &mut pass),
+        Err(_) => Status::NoMemory,
+    }
+}
+
+/// Answers the script over a store that threads share.
+fn answer_shared<S: Source, K: Sink, R: Threads + Wait + Sync>(
+    rt: &R,
+    alloc: Global,
+    words: &[String],
+    source: &mut S,
+    sink: &mut K,
+) -> Status {
+    match SharedStore::new(alloc, SHARDS, MAX_CODES, Mixed) {
+        Ok((store, pass)) => run_shared(rt, alloc, words, source, sink, &Open, &store, pass).0,
         Err(_) => Status::NoMemory,
     }
 }

@@ -17,15 +17,15 @@ read_number E bs n parses first =
     sym (decimal-digits_value digits bs told.0.0 told.0.1 (λ e. absurd (omega (arith, e))) small) ∙ ap decimal (sym told.1)
 
 -- what is written so is read
-pub number_read : (E : Type 0) (bs : List ℕ) (m n : ℕ) → ParsesUnsigned {E = E} 32 10 bs (Ok m) → 1 ≤ n → n ≤ 65536 → bs ≡ decimal n → (48 < get_or bs 0 0) × (1 ≤ m) × (m ≤ 65536)
-number_read E bs m n parses some few is =
+pub number_read : (E : Type 0) (bs : List ℕ) (m n most : ℕ) → ParsesUnsigned {E = E} 32 10 bs (Ok m) → most ≤ 65536 → 1 ≤ n → n ≤ most → bs ≡ decimal n → (48 < get_or bs 0 0) × (1 ≤ m) × (m ≤ most)
+number_read E bs m n most parses small some few is =
     let got : Result ℕ E = Ok m in
     let read : got ≡ Ok n = parse-decimal 32 n bs (Ok m) (omega arith) (omega arith) is parses in
     let same : m ≡ n = cc in
     let first : 48 < get_or bs 0 0 = subst (λ (l : List ℕ). 48 < get_or l 0 0) (sym is) (first_decimal n (omega arith) (omega arith)) in
     (first, omega arith, omega arith)
 
-pub number_is_read : (E : Type 0) (bs : List ℕ) (e : E) (n : ℕ) → ParsesUnsigned {E = E} 32 10 bs (Err e) → 1 ≤ n → n ≤ 65536 → bs ≡ decimal n → ⊥
-number_is_read E bs e n parses some few is =
+pub number_is_read : (E : Type 0) (bs : List ℕ) (e : E) (n most : ℕ) → ParsesUnsigned {E = E} 32 10 bs (Err e) → most ≤ 65536 → 1 ≤ n → n ≤ most → bs ≡ decimal n → ⊥
+number_is_read E bs e n most parses small some few is =
     let read : Err e ≡ Ok n = parse-decimal 32 n bs (Err e) (omega arith) (omega arith) is parses in
     cc

@@ -1,30 +1,38 @@
 -- From the words and the source to the text that a run answers.
-use Rattle.std.proofs.Common.{◌≡◌, ℕ, ◌<◌, List, [], ◌∷◌, ◌++◌, length, drop, ◌⊎◌, refl, inl, inr, ap, sym, subst, ◌∙◌, arith, length-append, true}
-use Rattle.std.specs.Prelude.{Option, Some, None, IfSome, codes, decimal}
+use Rattle.std.proofs.Common.{◌≡◌, ℕ, ◌<◌, List, [], ◌∷◌, ◌++◌, length, drop, get_or, ◌⊎◌, refl, inl, inr, ap, sym, subst, ◌∙◌, arith, length-append, true}
+use Rattle.std.specs.Prelude.{Option, Some, None, IfSome}
 use Rattle.std.proofs.lemmas.Fmt.{decimal_injective}
 use Rattle.pt_io.specs.Streams.{TookCount}
 use Rattle.pt_sets.specs.Lists.{Lists, Home, list_of}
 use Rattle.pt_script.specs.Texts.{too_long}
 use Rattle.pt_main.specs.declared.status.Status.{Status}
 use Rattle.pt_main.specs.declared.status.Status.TheVariants as status
-use Rattle.pt_main.specs.Options.{GiveBound}
+use Rattle.pt_main.specs.Options.{GiveBound, WordGives}
 use Rattle.pt_main.specs.Ending.{OfScript, IfWhole, IfFull, IsEnded, HasRoom, Answers, HasRead}
 use Rattle.pt_main.specs.Wanted.{KnowAnswered}
 use Rattle.pt_main.specs.Parts.{EndsWithLine, IsOfText}
 use Rattle.pt_main.proofs.Streaming.{wrote-nothing, wrote-same}
 use Rattle.pt_main.proofs.Endings.{whole, front_of_line, front_of_nothing}
 
+-- a word gives one bound
+word_bound : (word : List ℕ) (m n v w : ℕ) → WordGives word m v → WordGives word n w → m ≡ n
+word_bound word m n v w (inl a) (inl b) = decimal_injective m n (omega (arith, a.0.1)) (omega (arith, b.0.1)) (ap (drop 9) (sym a.0.2 ∙ b.0.2))
+word_bound word m n v w (inl a) (inr b) =
+    let third : 115 ≡ 119 = ap (λ (letters : List ℕ). get_or letters 2 0) (sym a.0.2 ∙ b.0.2) in
+    absurd (omega (arith, third))
+word_bound word m n v w (inr a) (inl b) =
+    let third : 119 ≡ 115 = ap (λ (letters : List ℕ). get_or letters 2 0) (sym a.0.2 ∙ b.0.2) in
+    absurd (omega (arith, third))
+word_bound word m n v w (inr a) (inr b) = a.1 ∙ sym b.1
+
 -- the words give one bound
 pub one_bound : (words : List (List ℕ)) (m n : ℕ) → GiveBound words m → GiveBound words n → m ≡ n
-one_bound words m n (inl a) (inl b) = a.1 ∙ sym b.1
-one_bound words m n (inl a) (inr b) = absurd (no_words words a.0 b.2)
-  where
-    no_words : {w : List ℕ} (words : List (List ℕ)) → words ≡ [] → words ≡ w ∷ [] → ⊥
-    no_words words none one = let e : [] ≡ _ = sym none ∙ one in cc
-one_bound words m n (inr a) (inl b) = absurd (let e = sym b.0 ∙ a.2 in cc)
-one_bound words m n (inr a) (inr b) =
-    let same : codes "--states=" ++ decimal m ≡ codes "--states=" ++ decimal n = let e = sym a.2 ∙ b.2 in cc in
-    decimal_injective m n (omega (arith, a.1)) (omega (arith, b.1)) (ap (drop 9) same)
+one_bound words m n (v, inl a) (w, inl b) = a.1 ∙ sym b.1
+one_bound words m n (v, inl a) (w, inr b) = let e = sym a.0 ∙ b.1 in cc
+one_bound words m n (v, inr a) (w, inl b) = let e = sym b.0 ∙ a.1 in cc
+one_bound words m n (v, inr a) (w, inr b) =
+    let same : a.0 ≡ b.0 = let e = sym a.1 ∙ b.1 in cc in
+    word_bound a.0 m n v w a.2 (subst (λ (word : List ℕ). WordGives word n w) (sym same) b.2)
 
 -- what holds of the text that was read and of the bound holds of the script
 pub of_text : (left after : Option (List ℕ)) (words : List (List ℕ)) (bound : ℕ) (items shown : List ℕ) (P : List ℕ → ℕ → Type 0) → GiveBound words bound → IfSome left (λ bytes. (items ≡ bytes) × (after ≡ Some [])) → shown ≡ items → P shown bound → OfScript left words P

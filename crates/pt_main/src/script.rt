@@ -10,30 +10,24 @@ ghost use Rattle.pt_main.specs.Ending.{OfScript, IfWhole, IfFull, IsEnded, HasRo
 ghost use Rattle.pt_main.specs.Wanted.{LackAsked, KnowAnswered, OffersWithin};
 ghost use Rattle.pt_main.specs.Parts.{EndsWithLine, EndsWithReply, CommandTold, IfAnswered, IfStops, IsOfText, EndsWithoutLine, HasReadLine};
 
-use crate::options::state_bound;
+use crate::given::Options;
 use crate::status::Status;
-use pt_eval::Gate;
+use crate::words::options;
+use pt_eval::{Gate, Working};
 use pt_handles::longer_lists_know;
 use pt_io::{ReadFault, Sink, Source, read_all, write_all};
 use pt_read::laws::{commands_push_few_levels, texts_give_out_few_numbers};
 use pt_read::{Command, ReadKind, ReadRefusal, Reader};
 use pt_script::{Reply, Session, SessionFault, write_fault, write_refusal, write_too_long};
-use pt_store::{Codes, Interner};
+use pt_store::Codes;
 use std::alloc::Global;
 use std::thread::Threads;
 
 /// The most bytes that a script may have.
 const LIMIT: usize = 4_194_304;
 
-/// Answers the script that the source gives, in order, with the state bound of the words. Each reply is written before the
-/// next command is read; the run ends at the end of the text, at `exit`, or at the first refusal, whose error line is the
-/// last line. The words are none, or `--states=B` with B from 1 to 65,536; the bound is 16,384 by default.
-///
-/// All work is done on the caller's thread. Besides the work of the commands the time is linear in the bytes.
-///
-/// Where the words are such, neither stream fails and no list of the pass comes to the store's limit, the answer is `Done`
-/// or `Refused`, or want of memory.
-pub fn run<S: Source, K: Sink, G: Gate, I: Interner, R: Threads + Sync>(
+/// As `run`, over a store that decides on which threads the work is done.
+pub(crate) fn run_with<S: Source, K: Sink, G: Gate, I: Working, R: Threads + Sync>(
     rt: &R,
     alloc: Global,
     words: &[String],
@@ -60,42 +54,41 @@ pub fn run<S: Source, K: Sink, G: Gate, I: Interner, R: Threads + Sync>(
     ensures extends { Extends (I.Pass.lists pass.old) (I.Pass.lists pass.new) }
     ensures kept { I.owns store.now pass.new }
 {
-    let Some(bound) = state_bound(words) else {
+    let Some(options) = options(words) else {
         return Status::Usage;
     };
     match read_all(alloc, source, LIMIT) {
-        Ok(text) => answer(rt, alloc, text.as_slice(), bound, sink, gate, store, pass),
+        Ok(text) => answer(rt, alloc, text.as_slice(), options, sink, gate, store, pass),
         Err(ReadFault::TooLong { limit: _ }) => refuse_text(alloc, sink),
         Err(ReadFault::Failed) => Status::ReadFault,
         Err(ReadFault::NoMemory) => Status::NoMemory,
     }
 }
 
-/// How many threads work on a command.
-const WORKERS: u32 = 1;
-
 /// Answers the commands of a text that is not too long.
-fn answer<K: Sink, G: Gate, I: Interner, R: Threads + Sync>(
+fn answer<K: Sink, G: Gate, I: Working, R: Threads + Sync>(
     rt: &R,
     alloc: Global,
     text: &[u8],
-    bound: u32,
+    options: Options,
     sink: &mut K,
     gate: &G,
     store: &I,
     pass: &mut I::Pass,
 ) -> Status
     requires size { length text.now ≤ 4194304 }
-    requires some { 0 < bound }
-    requires few { bound ≤ 65536 }
+    requires some { 0 < options.states }
+    requires few { options.states ≤ 65536 }
+    requires some_worker { 0 < options.workers }
+    requires few_workers { options.workers ≤ 16 }
     requires owned { I.owns store.now pass.old }
     ensures of_text { IsOfText result }
     ensures write_fault { result ≡ Status.WriteFault → Rose (K.faults sink.old) (K.faults sink.new) }
     ensures store_full { IfFull result (λ shard. length (list_of (I.Pass.lists pass.new) shard) ≡ I.limit_of store.now) }
-    ensures lack { IfFull result (λ _. LackAsked I.Pass.home (I.limit_of store.now) (I.Pass.lists pass.new) text.now bound) }
-    ensures answer { Answers text.now bound (K.written sink.old) (K.written sink.new) result }
-    ensures known { IfWhole result (KnowAnswered I.Pass.home (I.Pass.lists pass.new) text.now bound) }
-    ensures offers { OffersWithin text.now bound (I.Pass.offered pass.old) (I.Pass.offered pass.new) }
+    ensures lack { IfFull result (λ _. LackAsked I.Pass.home (I.limit_of store.now) (I.Pass.lists pass.new) text.now options.states) }
+    ensures answer { Answers text.now options.states (K.written sink.old) (K.written sink.new) result }
+    ensures known { IfWhole result (KnowAnswered I.Pass.home (I.Pass.lists pass.new) text.now options.states) }
+    ensures offers { OffersWithin text.now options.states (I.Pass.offered pass.old) (I.Pass.offered pass.new) }
     ensures counted { K.faults sink.old ≤ K.faults sink.new }
     ensures extends { Extends (I.Pass.lists pass.old) (I.Pass.lists pass.new) }
     ensures kept { I.owns store.now pass.new }
@@ -116,7 +109,7 @@ fn answer<K: Sink, G: Gate, I: Interner, R: Threads + Sync>(
                     alloc,
                     &mut session,
                     command,
-                    bound,
+                    options,
                     sink,
                     gate,
                     store,
@@ -133,12 +126,12 @@ fn answer<K: Sink, G: Gate, I: Interner, R: Threads + Sync>(
 }
 
 /// Answers a command, and writes its reply or the line of its refusal. The run goes on, or it ends as the status says.
-fn answer_command<K: Sink, G: Gate, I: Interner, R: Threads + Sync>(
+fn answer_command<K: Sink, G: Gate, I: Working, R: Threads + Sync>(
     rt: &R,
     alloc: Global,
     session: &mut Session,
     command: Command,
-    bound: u32,
+    options: Options,
     sink: &mut K,
     gate: &G,
     store: &I,
@@ -147,24 +140,27 @@ fn answer_command<K: Sink, G: Gate, I: Interner, R: Threads + Sync>(
     requires fits { FitsKind command.kind session.old.scope }
     requires going { session.old.fault ≡ None }
     requires depth { session.old.scope.depth < 2 ^ 127 }
-    requires some { 0 < bound }
-    requires few { bound ≤ 65536 }
+    requires some { 0 < options.states }
+    requires few { options.states ≤ 65536 }
+    requires some_worker { 0 < options.workers }
+    requires few_workers { options.workers ≤ 16 }
     requires owned { I.owns store.now pass.old }
-    ensures told { CommandTold session.old command bound session.new (K.written sink.old) (K.written sink.new) result }
-    ensures asked { IfAnswered result (KnowsAsked I.Pass.home (I.Pass.lists pass.new) session.old.scope command.kind bound) }
+    ensures told { CommandTold session.old command options.states session.new (K.written sink.old) (K.written sink.new) result }
+    ensures asked { IfAnswered result (KnowsAsked I.Pass.home (I.Pass.lists pass.new) session.old.scope command.kind options.states) }
     ensures write_fault { result ≡ Some Status.WriteFault → Rose (K.faults sink.old) (K.faults sink.new) }
     ensures store_full { IfStops result (λ shard. length (list_of (I.Pass.lists pass.new) shard) ≡ I.limit_of store.now) }
-    ensures lack { IfStops result (λ _. LacksAsked I.Pass.home (I.limit_of store.now) (I.Pass.lists pass.new) (CommandAsks session.old.scope command.kind bound)) }
-    ensures offers { I.Pass.offered pass.new ≤ I.Pass.offered pass.old + (length session.old.scope.formula + 2) * bound }
+    ensures lack { IfStops result (λ _. LacksAsked I.Pass.home (I.limit_of store.now) (I.Pass.lists pass.new) (CommandAsks session.old.scope command.kind options.states)) }
+    ensures offers { I.Pass.offered pass.new ≤ I.Pass.offered pass.old + (length session.old.scope.formula + 2) * options.states }
     ensures counted { K.faults sink.old ≤ K.faults sink.new }
     ensures extends { Extends (I.Pass.lists pass.old) (I.Pass.lists pass.new) }
     ensures kept { I.owns store.now pass.new }
 {
-    match session.execute(rt, alloc, command, store, pass, bound, WORKERS, gate) {
+    let Options { states, workers } = options;
+    match session.execute_with(rt, alloc, command, store, pass, states, workers, gate) {
         Ok(reply) => write_reply(sink, reply),
         Err(fault) => match end_of(fault) {
             Some(status) => Some(status),
-            None => Some(refuse_command(alloc, sink, bound, fault)),
+            None => Some(refuse_command(alloc, sink, states, fault)),
         },
     }
 }

@@ -1,5 +1,7 @@
 ghost use Rattle.std.specs.Prelude.{◌≡◌, ◌≢◌, ◌<◌, ◌≤◌, ◌↔◌, IsTrue, slice_index, ◌++◌, ℕ, map, codes, decimal, string_bytes, MatchOption, ⊤};
-ghost use Rattle.pt_main.specs.Options.{GiveBound, AreOptions};
+ghost use Rattle.pt_main.specs.Options.{GiveOptions, AreOptions, AreInRange, StatesWord, WorkersWord, WordGives};
+
+use crate::given::Options;
 
 /// The state bound where no word gives one.
 const DEFAULT_BOUND: u32 = 16_384;
@@ -7,44 +9,78 @@ const DEFAULT_BOUND: u32 = 16_384;
 /// The greatest state bound.
 const MAX_BOUND: u32 = 65_536;
 
-/// The state bound that the words give, if they are the defined ones.
-pub(crate) fn state_bound(words: &[String]) -> Option<u32>
-    ensures some { MatchOption result (¬ AreOptions (map string_bytes words.now)) (GiveBound (map string_bytes words.now)) }
-    ensures range { MatchOption result ⊤ (λ bound. (1 ≤ bound) × (bound ≤ 65536)) }
+/// The greatest number of workers.
+const MAX_WORKERS: u32 = 16;
+
+/// The options that the words give, if they are the defined ones: none, `--states=B` with B from 1 to 65,536, or
+/// `--workers=N` with N from 1 to 16. What is left out is 16,384 states and one worker.
+pub fn options(words: &[String]) -> Option<Options>
+    ensures some { MatchOption result (¬ AreOptions (map string_bytes words.now)) (λ given. GiveOptions (map string_bytes words.now) given.states given.workers) }
+    ensures range { MatchOption result ⊤ (λ given. AreInRange given.states given.workers) }
 {
     match words {
-        [] => Some(DEFAULT_BOUND),
-        [word] => bound_of(word.as_str()),
+        [] => Some(Options {
+            states: DEFAULT_BOUND,
+            workers: 1,
+        }),
+        [word] => option_of(word.as_str()),
         _ => None,
     }
 }
 
-/// The number of a word `--states=B`.
-fn bound_of(word: &str) -> Option<u32>
-    ensures { MatchOption result ((bound : ℕ) → 1 ≤ bound → bound ≤ 65536 → word.now ≢ codes "--states=" ++ decimal bound) (λ bound. (1 ≤ bound) × (bound ≤ 65536) × (word.now ≡ codes "--states=" ++ decimal bound)) }
+/// The options that one word gives.
+fn option_of(word: &str) -> Option<Options>
+    ensures { MatchOption result ((n : ℕ) → (¬ StatesWord word.now n) × (¬ WorkersWord word.now n)) (λ given. WordGives word.now given.states given.workers) }
 {
-    match word.strip_prefix("--states=") {
-        Some(digits) => number_of(digits),
+    if let Some(states) = states_of(word) {
+        return Some(Options { states, workers: 1 });
+    }
+    match workers_of(word) {
+        Some(workers) => Some(Options {
+            states: DEFAULT_BOUND,
+            workers,
+        }),
         None => None,
     }
 }
 
-/// The state bound that is written so, without a leading zero.
-fn number_of(digits: &str) -> Option<u32>
-    ensures { MatchOption result ((bound : ℕ) → 1 ≤ bound → bound ≤ 65536 → digits.now ≢ decimal bound) (λ bound. (1 ≤ bound) × (bound ≤ 65536) × (digits.now ≡ decimal bound)) }
+/// The number of a word `--states=B`.
+fn states_of(word: &str) -> Option<u32>
+    ensures { MatchOption result ((n : ℕ) → ¬ StatesWord word.now n) (StatesWord word.now) }
+{
+    match word.strip_prefix("--states=") {
+        Some(digits) => number_of(digits, MAX_BOUND),
+        None => None,
+    }
+}
+
+/// The number of a word `--workers=N`.
+fn workers_of(word: &str) -> Option<u32>
+    ensures { MatchOption result ((n : ℕ) → ¬ WorkersWord word.now n) (WorkersWord word.now) }
+{
+    match word.strip_prefix("--workers=") {
+        Some(digits) => number_of(digits, MAX_WORKERS),
+        None => None,
+    }
+}
+
+/// The number, from 1 to `most`, that is written so, without a leading zero.
+fn number_of(digits: &str, most: u32) -> Option<u32>
+    requires { most ≤ 65536 }
+    ensures { MatchOption result ((n : ℕ) → 1 ≤ n → n ≤ most → digits.now ≢ decimal n) (λ n. (1 ≤ n) × (n ≤ most) × (digits.now ≡ decimal n)) }
 {
     match digits.parse::<u32>() {
-        Ok(bound) if is_plain(digits, bound) => Some(bound),
+        Ok(number) if is_plain(digits, number, most) => Some(number),
         _ => None,
     }
 }
 
-/// Whether digits are those of a state bound, without a leading zero.
-fn is_plain(digits: &str, bound: u32) -> bool
-    ensures { IsTrue result ↔ ((48 < slice_index digits.now 0) × (1 ≤ bound) × (bound ≤ 65536)) }
+/// Whether digits are those of such a number, without a leading zero.
+fn is_plain(digits: &str, number: u32, most: u32) -> bool
+    ensures { IsTrue result ↔ ((48 < slice_index digits.now 0) × (1 ≤ number) × (number ≤ most)) }
 {
     match digits.as_bytes() {
-        [first, ..] => *first > b'0' && 0 < bound && bound <= MAX_BOUND,
+        [first, ..] => *first > b'0' && 0 < number && number <= most,
         [] => false,
     }
 }

@@ -11,7 +11,9 @@ ghost use Rattle.pt_script.specs.Asks.{AsksFor, KnowsAll};
 ghost use Rattle.pt_script.specs.Sets.{HasSetOf, RefusesAsked, FullOnlyWhere};
 
 use crate::fault::SessionFault;
-use pt_eval::{EvalFault, Gate, evaluate, handles_of_solutions_are_widened_by_tracks, track_map};
+use pt_eval::{
+    EvalFault, Gate, Working, evaluate_with, handles_of_solutions_are_widened_by_tracks, track_map,
+};
 use pt_formula::NodeId;
 use pt_handles::{Handle, longer_lists_know};
 use pt_product::widen;
@@ -21,7 +23,7 @@ use std::alloc::Global;
 use std::thread::Threads;
 
 /// Known handles of the solutions of the roots. What is refused names the place of the refused node.
-pub(crate) fn evaluate_roots<I: Interner, G: Gate, R: Threads + Sync>(
+pub(crate) fn evaluate_roots<I: Working, G: Gate, R: Threads + Sync>(
     rt: &R,
     alloc: Global,
     store: &I,
@@ -50,7 +52,9 @@ pub(crate) fn evaluate_roots<I: Interner, G: Gate, R: Threads + Sync>(
 {
     handles_of_solutions_are_widened_by_tracks();
     let formula = scope.formula();
-    match evaluate(rt, alloc, store, pass, formula, roots, bound, workers, gate) {
+    match evaluate_with(
+        rt, alloc, store, pass, formula, roots, bound, workers, gate,
+    ) {
         Ok(handles) => Ok(handles),
         Err(EvalFault::States { node }) => Err(SessionFault::States {
             position: formula.position(node),
@@ -92,7 +96,7 @@ pub(crate) fn widen_body<I: Interner, R: Threads + Sync>(
 }
 
 /// A handle of the set of a predicate.
-pub(crate) fn one_set<I: Interner, G: Gate, R: Threads + Sync>(
+pub(crate) fn one_set<I: Working, G: Gate, R: Threads + Sync>(
     rt: &R,
     alloc: Global,
     store: &I,
@@ -125,7 +129,7 @@ pub(crate) fn one_set<I: Interner, G: Gate, R: Threads + Sync>(
 }
 
 /// Handles of the sets of two predicates.
-pub(crate) fn two_sets<I: Interner, G: Gate, R: Threads + Sync>(
+pub(crate) fn two_sets<I: Working, G: Gate, R: Threads + Sync>(
     rt: &R,
     alloc: Global,
     store: &I,

@@ -9,6 +9,7 @@ pub mod laws;
 mod reply;
 mod session;
 mod solution;
+mod stores;
 mod subjects;
 mod telling;
 mod texts;

@@ -5,17 +5,17 @@ use Rattle.pt_main.specs.Wanted.{LackAsked, KnowAnswered, OffersWithin}
 use Rattle.pt_main.proofs.WholeText.{read_whole, read_past}
 use Rattle.pt_main.proofs.Whole.{of_text, of_any, of_long, if_full, if_whole, if_whole_any, has_read, long_answer, long_known, long_of_text, long_full, completes}
 use Rattle.pt_main.proofs.Endings.{front_of_nothing}
-use Rattle.pt_main.proofs.script.run.Goals as goal
+use Rattle.pt_main.proofs.script.run_with.Goals as goal
 
 pub returns-in-Ok-clause-lack : goal.returns-in-Ok-clause-lack
 returns-in-Ok-clause-lack g c =
     let lack : List ℕ → ℕ → Type 0 = LackAsked g.I.Pass.Codes.home (g.I.Interner.limit_of c.args.store.now) (g.I.Pass.Codes.lists c.answer.new.pass) in
-    if_full c.answer.result (λ _. lack c.as_slice.result.now c.in-Some.bound) (λ _. OfScript (g.S.Source.left c.args.source.now) (map string_bytes c.args.words.now) lack) c.answer.ensures.lack
-    (λ shard h. of_text (g.S.Source.left c.args.source.now) (g.S.Source.left c.read_all.new.source) (map string_bytes c.args.words.now) c.in-Some.bound c.in-Ok.text.items c.as_slice.result.now lack c.in-Some.ensures.some c.in-Ok.ensures.ok c.as_slice.ensures.value h)
+    if_full c.answer.result (λ _. lack c.as_slice.result.now c.in-Some.options.states) (λ _. OfScript (g.S.Source.left c.args.source.now) (map string_bytes c.args.words.now) lack) c.answer.ensures.lack
+    (λ shard h. of_text (g.S.Source.left c.args.source.now) (g.S.Source.left c.read_all.new.source) (map string_bytes c.args.words.now) c.in-Some.options.states c.in-Ok.text.items c.as_slice.result.now lack (c.in-Some.options.workers, c.in-Some.ensures.some) c.in-Ok.ensures.ok c.as_slice.ensures.value h)
 
 pub returns-in-Ok-clause-answer : goal.returns-in-Ok-clause-answer
 returns-in-Ok-clause-answer g c =
-    of_text (g.S.Source.left c.args.source.now) (g.S.Source.left c.read_all.new.source) (map string_bytes c.args.words.now) c.in-Some.bound c.in-Ok.text.items c.as_slice.result.now (λ text bound. Answers text bound (g.K.Sink.written c.args.sink.now) (g.K.Sink.written c.answer.new.sink) c.answer.result) c.in-Some.ensures.some c.in-Ok.ensures.ok c.as_slice.ensures.value c.answer.ensures.answer
+    of_text (g.S.Source.left c.args.source.now) (g.S.Source.left c.read_all.new.source) (map string_bytes c.args.words.now) c.in-Some.options.states c.in-Ok.text.items c.as_slice.result.now (λ text bound. Answers text bound (g.K.Sink.written c.args.sink.now) (g.K.Sink.written c.answer.new.sink) c.answer.result) (c.in-Some.options.workers, c.in-Some.ensures.some) c.in-Ok.ensures.ok c.as_slice.ensures.value c.answer.ensures.answer
 
 pub returns-in-Ok-clause-read : goal.returns-in-Ok-clause-read
 returns-in-Ok-clause-read g c =
@@ -24,12 +24,12 @@ returns-in-Ok-clause-read g c =
 pub returns-in-Ok-clause-known : goal.returns-in-Ok-clause-known
 returns-in-Ok-clause-known g c =
     let known : List ℕ → ℕ → Type 0 = KnowAnswered g.I.Pass.Codes.home (g.I.Pass.Codes.lists c.answer.new.pass) in
-    if_whole c.answer.result (known c.as_slice.result.now c.in-Some.bound) (OfScript (g.S.Source.left c.args.source.now) (map string_bytes c.args.words.now) known) c.answer.ensures.known
-    (λ h. of_text (g.S.Source.left c.args.source.now) (g.S.Source.left c.read_all.new.source) (map string_bytes c.args.words.now) c.in-Some.bound c.in-Ok.text.items c.as_slice.result.now known c.in-Some.ensures.some c.in-Ok.ensures.ok c.as_slice.ensures.value h)
+    if_whole c.answer.result (known c.as_slice.result.now c.in-Some.options.states) (OfScript (g.S.Source.left c.args.source.now) (map string_bytes c.args.words.now) known) c.answer.ensures.known
+    (λ h. of_text (g.S.Source.left c.args.source.now) (g.S.Source.left c.read_all.new.source) (map string_bytes c.args.words.now) c.in-Some.options.states c.in-Ok.text.items c.as_slice.result.now known (c.in-Some.options.workers, c.in-Some.ensures.some) c.in-Ok.ensures.ok c.as_slice.ensures.value h)
 
 pub returns-in-Ok-clause-offers : goal.returns-in-Ok-clause-offers
 returns-in-Ok-clause-offers g c =
-    of_text (g.S.Source.left c.args.source.now) (g.S.Source.left c.read_all.new.source) (map string_bytes c.args.words.now) c.in-Some.bound c.in-Ok.text.items c.as_slice.result.now (λ text bound. OffersWithin text bound (g.I.Pass.Codes.offered c.args.pass.now) (g.I.Pass.Codes.offered c.answer.new.pass)) c.in-Some.ensures.some c.in-Ok.ensures.ok c.as_slice.ensures.value c.answer.ensures.offers
+    of_text (g.S.Source.left c.args.source.now) (g.S.Source.left c.read_all.new.source) (map string_bytes c.args.words.now) c.in-Some.options.states c.in-Ok.text.items c.as_slice.result.now (λ text bound. OffersWithin text bound (g.I.Pass.Codes.offered c.args.pass.now) (g.I.Pass.Codes.offered c.answer.new.pass)) (c.in-Some.options.workers, c.in-Some.ensures.some) c.in-Ok.ensures.ok c.as_slice.ensures.value c.answer.ensures.offers
 
 pub returns-in-Err-TooLong-clause-answer : goal.returns-in-Err-TooLong-clause-answer
 returns-in-Err-TooLong-clause-answer g c =
