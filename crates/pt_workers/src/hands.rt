@@ -68,13 +68,16 @@ fn work_hand<I: Interner, W: Work>(
 }
 
 /// Works on the numbers of each hand by a thread of its own, where one can be made.
-pub(crate) fn work_each<I: Sharing, W: Work, R: Threads + Sync>(
+pub(crate) fn work_each<I: Sharing, W: Work + Sync, R: Threads + Sync>(
     rt: &R,
     alloc: Global,
     store: &I,
     work: &W,
     hands: Vec<Hand<I::Pass>>,
 ) -> Result<Vec<Report<I::Pass, W::Answer>>, AllocError>
+where
+    I::Pass: Send,
+    W::Answer: Send,
     requires { All (IsReady (I.owns store.now) I.Pass.lists I.Pass.offered (W.may_begin work.now I.Pass.home)) hands.items }
     ensures count { IfOk result (λ v. vec_len v ≡ vec_len hands) }
     ensures each { IfOk result (λ v. Each (λ hand report. IsReportOf (I.owns store.now) I.Pass.lists I.Pass.offered (I.limit_of store.now) (W.gives work.now I.Pass.home) (W.lacks work.now I.Pass.home (I.limit_of store.now)) (W.most work.now) hand.numbers report) hands.items v.items) }
