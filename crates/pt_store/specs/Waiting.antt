@@ -1,5 +1,5 @@
 -- Passes that wait show lists within the limit.
-use Rattle.std.proofs.Common.{◌≡◌, ℕ, ◌<◌, ◌≤◌, List, [], ◌∷◌, All, length, get_or, ap, sym, ◌∙◌, subst}
+use Rattle.std.proofs.Common.{◌≡◌, ℕ, ◌<◌, ◌≤◌, List, [], ◌∷◌, All, length, get_or, sym, subst}
 use Rattle.std.proofs.Math.Nat.{not-suc-le-zero, zero-lt-suc, lt_irrefl}
 use Rattle.std.proofs.lemmas.List.{get_or-map, length-map}
 use Rattle.pt_sets.specs.Lists.{IsWithin}

@@ -28,6 +28,8 @@ pub use spread::{Mixed, OneShard};
 pub use traits::{Codes, Interner, Sharing, Spread};
 
 #[cfg(test)]
+mod in_turns_tests;
+#[cfg(test)]
 mod shard_tests;
 #[cfg(test)]
 mod shared_tests;

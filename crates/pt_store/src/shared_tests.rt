@@ -4,9 +4,10 @@ ghost use Rattle.std.specs.Arc.{arc_value};
 ghost use Rattle.pt_sets.specs.Lists.{find, Extends};
 ghost use Rattle.pt_store.specs.Shared.{OwnsWaiting, lists_of};
 
+use crate::tests::{ALL, MINUS_ONE, NONE, ZERO, shared};
 use crate::*;
-use pt_code::{Code, Place, read_code};
-use std::alloc::{AllocError, Global};
+use pt_code::{Code, Place};
+use std::alloc::Global;
 use std::sync::{Arc, Wait};
 use std::test::Fail;
 use std::thread::{Threads, join};
@@ -57,20 +58,6 @@ fn intern_three<R: Wait, S: Spread + Send>(
         _ => (pass, Err(StoreFault::NoMemory)),
     }
 }
-
-fn shared(alloc: Global, numbers: &[u32]) -> Result<Arc<Code>, Fail> {
-    let code = read_code(alloc, numbers)?;
-    Ok(Arc::new(alloc, code).map_err(AllocError::from)?)
-}
-
-// The codes over one track of no integer, all integers, 0 alone and -1 alone.
-const NONE: [u32; 8] = [1, 1, 0, 0, 0, 0, 0, 0];
-
-const ALL: [u32; 8] = [1, 1, 0, 1, 1, 0, 0, 0];
-
-const ZERO: [u32; 11] = [1, 1, 1, 1, 0, 0, 1, 1, 0, 0, 0];
-
-const MINUS_ONE: [u32; 11] = [1, 1, 1, 0, 1, 1, 0, 1, 0, 0, 0];
 
 // Two threads intern the same codes in opposite orders, and are joined. Answers whether each code has one place, the list
 // is then full, and each code is still found.

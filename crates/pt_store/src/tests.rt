@@ -11,7 +11,7 @@ use std::sync::Arc;
 use std::test::Fail;
 
 // Interns two codes. Both are found afterwards at the places that are answered.
-fn intern_two<I: Interner>(
+pub(crate) fn intern_two<I: Interner>(
     alloc: Global,
     store: &I,
     pass: &mut I::Pass,
@@ -30,7 +30,7 @@ fn intern_two<I: Interner>(
 }
 
 // Interns a code through a second pass, and joins it. Afterwards the first pass has the code.
-fn intern_apart<I: Sharing>(
+pub(crate) fn intern_apart<I: Sharing>(
     alloc: Global,
     store: &I,
     pass: &mut I::Pass,
@@ -51,19 +51,19 @@ where
     }
 }
 
-fn shared(alloc: Global, numbers: &[u32]) -> Result<Arc<Code>, Fail> {
+pub(crate) fn shared(alloc: Global, numbers: &[u32]) -> Result<Arc<Code>, Fail> {
     let code = read_code(alloc, numbers)?;
     Ok(Arc::new(alloc, code).map_err(AllocError::from)?)
 }
 
 // The codes over one track of no integer, all integers, 0 alone and -1 alone.
-const NONE: [u32; 8] = [1, 1, 0, 0, 0, 0, 0, 0];
+pub(crate) const NONE: [u32; 8] = [1, 1, 0, 0, 0, 0, 0, 0];
 
-const ALL: [u32; 8] = [1, 1, 0, 1, 1, 0, 0, 0];
+pub(crate) const ALL: [u32; 8] = [1, 1, 0, 1, 1, 0, 0, 0];
 
-const ZERO: [u32; 11] = [1, 1, 1, 1, 0, 0, 1, 1, 0, 0, 0];
+pub(crate) const ZERO: [u32; 11] = [1, 1, 1, 1, 0, 0, 1, 1, 0, 0, 0];
 
-const MINUS_ONE: [u32; 11] = [1, 1, 1, 0, 1, 1, 0, 1, 0, 0, 0];
+pub(crate) const MINUS_ONE: [u32; 11] = [1, 1, 1, 0, 1, 1, 0, 1, 0, 0, 0];
 
 #[test]
 fn codes_get_places_in_order_until_the_list_is_full(rt: HostRuntime) -> Result<(), Fail> {
