@@ -38,6 +38,7 @@ pub trait Working: Interner {
 }
 
 /// A store that is used on the caller's thread alone, for any number of workers.
+#[derive(Drop)]
 pub struct Alone<'a, I> {
     pub store: &'a I,
 }
