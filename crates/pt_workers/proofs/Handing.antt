@@ -7,7 +7,7 @@ use Rattle.pt_sets.specs.Lists.{Lists}
 use Rattle.pt_workers.specs.declared.hands.Hand.{Hand}
 use Rattle.pt_workers.specs.declared.hands.Report.{Report}
 use Rattle.pt_workers.specs.Works.{all_of}
-use Rattle.pt_workers.specs.Reports.{Each, IsHandOf, IsReady, IsReportOf, reported}
+use Rattle.pt_workers.specs.Reports.{Each, IsHandOf, IsReady, IsReportOf, IsReportFor, reported}
 use Rattle.pt_workers.proofs.Dealing.{all-part, flat-same}
 
 -- the element at a place, whatever the default
@@ -33,18 +33,18 @@ ready-hands owns lists offered may_begin old dealt hands len each all = λ k d l
 module _ {P A : Type 0} (owns : P → Type 0) (lists : P → Lists) (offered : P → ℕ) (limit : ℕ) (gives : Lists → ℕ → A → Type 0) (lacks : Lists → ℕ → Type 0) (most : ℕ → ℕ) where
   -- each report is one of its own numbers
   pub own-reports : (hands : List (Hand P)) (reports : List (Report P A)) → length reports ≡ length hands →
-      Each (λ (hand : Hand P) (report : Report P A). IsReportOf owns lists offered limit gives lacks most hand.numbers report) hands reports → All (λ (report : Report P A). IsReportOf owns lists offered limit gives lacks most report.numbers report) reports
+      Each (IsReportFor owns lists offered limit gives lacks most) hands reports → All (λ (report : Report P A). IsReportOf owns lists offered limit gives lacks most report.numbers report) reports
   own-reports hands reports len each = λ k d lt.
       let inside : k < length hands = omega (arith, len) in
       let hand = at_place hands k inside in
       let is = each k hand.0 d inside in
-      subst (λ (v : Vec ℕ). IsReportOf owns lists offered limit gives lacks most v (slice_index_or reports k d)) (sym is.kept) is
+      subst (λ (v : Vec ℕ). IsReportOf owns lists offered limit gives lacks most v (slice_index_or reports k d)) (sym is.is.kept) is.is
 
   -- the numbers that are reported are those that were dealt
   pub reported-dealt : (old : Lists) (dealt : List (Vec ℕ)) (hands : List (Hand P)) (reports : List (Report P A)) → length hands ≡ length dealt → length reports ≡ length hands → Each (IsHandOf owns lists offered old) dealt hands →
-      Each (λ (hand : Hand P) (report : Report P A). IsReportOf owns lists offered limit gives lacks most hand.numbers report) hands reports → reported reports ≡ all_of dealt
+      Each (IsReportFor owns lists offered limit gives lacks most) hands reports → reported reports ≡ all_of dealt
   reported-dealt old dealt hands reports len more split each =
-      flat-same (λ (hand : Hand P). hand.numbers.items) (λ (report : Report P A). report.numbers.items) hands reports more (λ i d e lt. ap (λ (v : Vec ℕ). v.items) (each i d e lt).kept)
+      flat-same (λ (hand : Hand P). hand.numbers.items) (λ (report : Report P A). report.numbers.items) hands reports more (λ i d e lt. ap (λ (v : Vec ℕ). v.items) (each i d e lt).is.kept)
       ∙ flat-same (λ (v : Vec ℕ). v.items) (λ (hand : Hand P). hand.numbers.items) dealt hands len (λ i d e lt. ap (λ (v : Vec ℕ). v.items) (split i d e lt).kept)
 
 -- one more element of each list
@@ -63,7 +63,7 @@ nothing_left (x ∷ xs) h = absurd (omega (arith, h))
 
 -- the element that comes next is one of all
 pub comes-next : {X : Type 0} (P : X → Type 0) (front : List X) (x : X) (rest all : List X) → front ++ x ∷ rest ≡ all → All P all → P x
-comes-next P front x rest all is each = at front (λ k d lt. rw is (each k d (rw (← is) lt)))
+comes-next {X = X} P front x rest all is each = at front (subst (λ (xs : List X). All P xs) (sym is) each)
   where
     at : (xs : List X) → All P (xs ++ x ∷ rest) → P x
     at [] each = each 0 x (omega arith)

@@ -62,3 +62,7 @@ ok-moved P ns ms (Err fault) moved is = tt
 pub err-moved : {A : Type 0} (limit : ℕ) (lists : Lists) (P : ℕ → Type 0) (ns ms : List ℕ) (r : Result (Vec (ℕ × A)) StoreFault) → IsPermutation ns ms → IfErr r (RefusesOnly limit lists (Some_of ms P)) → IfErr r (RefusesOnly limit lists (Some_of ns P))
 err-moved limit lists P ns ms (Ok told) moved is = tt
 err-moved limit lists P ns ms (Err fault) moved is = refuses-moved limit lists (Some_of ms P) (Some_of ns P) fault (some-moved P ns ms moved) is
+
+pub if-ok : {X E : Type 0} {P Q : X → Type 0} (r : Result X E) → IfOk r P → ((x : X) → P x → Q x) → IfOk r Q
+if-ok (Ok x) h into = into x h
+if-ok (Err e) h into = tt
