@@ -15,6 +15,7 @@ use std::thread::Threads;
 
 /// Evaluation of the nodes of one level, whose children are done with. The gate is told right before and right after each
 /// node's work.
+#[derive(Drop)]
 pub(crate) struct Level<'a, G, R> {
     pub rt: &'a R,
     pub formula: &'a Formula,

@@ -10,6 +10,7 @@ mod levels;
 mod marks;
 mod node;
 mod outcome;
+mod shared;
 mod tables;
 mod tracks;
 
@@ -18,7 +19,10 @@ pub use fault::EvalFault;
 pub use gate::{Gate, Open};
 pub use laws::{handles_of_solutions_are_widened_by_tracks, refusals_are_exact};
 pub use pt_workers::{Alone, Working};
+pub use shared::evaluate_shared;
 pub use tracks::track_map;
 
+#[cfg(test)]
+mod shared_tests;
 #[cfg(test)]
 mod tests;

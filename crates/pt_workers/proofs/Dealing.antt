@@ -1,12 +1,14 @@
 -- Dealing numbers, and what is told of them.
-use Rattle.std.proofs.Common.{◌≡◌, ◌≢◌, ◌⊎◌, inl, inr, ℕ, zero, suc, ◌+◌, ◌<◌, ◌≤◌, ◌%◌, Bool, true, false, cond, List, [], ◌∷◌, ◌++◌, length, map, refl, ap, sym, subst, ◌∙◌, arith, append_assoc, add-zero, length-append}
-use Rattle.std.specs.Prelude.{All, Contains, nat_eq, sum_by, slice_index_or}
+use Rattle.std.proofs.Common.{◌≡◌, ◌≢◌, ◌⊎◌, inl, inr, ℕ, zero, suc, ◌+◌, ◌<◌, ◌≤◌, ◌%◌, Bool, true, false, cond, List, [], ◌∷◌, ◌++◌, length, map, take, refl, ap, sym, subst, ◌∙◌, arith, append_assoc, add-zero, zero-add, length-append}
+use Rattle.std.specs.Prelude.{All, Contains, nat_eq, sum_by, slice_index, slice_index_or}
 use Rattle.std.specs.List.{flat_map}
 use Rattle.std.specs.List.Sorted.{IsPermutation}
 use Rattle.std.specs.Global.{Vec}
 use Rattle.std.proofs.lemmas.Bool.{cases_eq}
 use Rattle.std.proofs.lemmas.Bool.Decides.{nat_tests}
-use Rattle.std.proofs.lemmas.List.Elements.{All-append, All-head, All-tail, All-weaker, All-map, Contains-append_left, Contains-append_right}
+use Rattle.std.proofs.lemmas.Grind.{common_steps}
+use Rattle.std.proofs.lemmas.List.Sums.{sum_by-append}
+use Rattle.std.proofs.lemmas.List.Elements.{All-append, All-head, All-tail, All-weaker, All-push}
 use Rattle.std.proofs.lemmas.List.Sorted.{IsPermutation-refl, IsPermutation-sym, IsPermutation-trans, IsPermutation-append, IsPermutation-append_left, IsPermutation-append_right, IsPermutation-to_front, sum_by-IsPermutation, Contains-permutation, All-permutation}
 use Rattle.pt_workers.specs.Works.{dealt, hand_of, all_of, AreTold, Some_of}
 use Rattle.pt_workers.specs.Reports.{Each}
@@ -123,3 +125,36 @@ told-moved P ns ms told moved are = record { each = are.each; once = IsPermutati
 
 pub some-moved : (P : ℕ → Type 0) (ns ms : List ℕ) → IsPermutation ns ms → Some_of ms P → Some_of ns P
 some-moved P ns ms moved (n, among, p) = (n, Contains-permutation ms ns n (IsPermutation-sym ns ms moved) among, p)
+
+-- ---- empty hands
+
+pub hand-push : (hands : List (Vec ℕ)) (v : Vec ℕ) (k : ℕ) → v.items ≡ [] → ((y : ℕ) → hand_of hands y ≡ []) → hand_of (hands ++ v ∷ []) k ≡ []
+hand-push [] v zero none empty = none
+hand-push [] v (suc k) none empty = refl
+hand-push (u ∷ hands) v zero none empty = empty 0
+hand-push (u ∷ hands) v (suc k) none empty = hand-push hands v k none (λ y. empty (suc y))
+
+pub all-push : (hands : List (Vec ℕ)) (v : Vec ℕ) → v.items ≡ [] → all_of hands ≡ [] → all_of (hands ++ v ∷ []) ≡ []
+all-push [] v none empty = ap (λ (xs : List ℕ). xs ++ []) none
+all-push (u ∷ hands) v none empty = together u.items (all_of hands) (all_of (hands ++ v ∷ [])) empty (all-push hands v none)
+  where
+    together : (xs ys zs : List ℕ) → xs ++ ys ≡ [] → (ys ≡ [] → zs ≡ []) → xs ++ zs ≡ []
+    together [] ys zs none into = into none
+    together (x ∷ xs) ys zs none into = absurd (omega (arith, ap length none))
+
+-- ---- one after another
+
+pub take-next : (xs : List ℕ) (k : ℕ) → k < length xs → take (k + 1) xs ≡ take k xs ++ slice_index xs k ∷ []
+take-next xs k lt = grind (arith, common_steps)
+
+pub sum-push : (f : ℕ → ℕ) (xs : List ℕ) (x : ℕ) → sum_by f (xs ++ x ∷ []) ≡ sum_by f xs + f x
+sum-push f xs x = sum_by-append f xs (x ∷ []) ∙ ap (λ (n : ℕ). sum_by f xs + n) (zero-add (f x))
+
+pub told-push : {A : Type 0} (P Q : ℕ → A → Type 0) (told : List (ℕ × A)) (n : ℕ) (a : A) → ((m : ℕ) (b : A) → P m b → Q m b) → All (λ t. P t.0 t.1) told → Q n a → All (λ t. Q t.0 t.1) (told ++ (n, a) ∷ [])
+told-push P Q told n a into all is = All-push (λ t. Q t.0 t.1) told (n, a) (All-weaker (λ t. P t.0 t.1) (λ t. Q t.0 t.1) (λ t p. into t.0 t.1 p) told all) is
+
+pub numbers-push : {A : Type 0} (told : List (ℕ × A)) (n : ℕ) (a : A) (front : List ℕ) → map (λ t. t.0) told ≡ front → map (λ t. t.0) (told ++ (n, a) ∷ []) ≡ front ++ n ∷ []
+numbers-push told n a front is = map-both told ((n, a) ∷ []) ∙ ap (λ (ns : List ℕ). ns ++ n ∷ []) is
+
+pub told-in_order : {A : Type 0} (P : ℕ → A → Type 0) (numbers : List ℕ) (told : List (ℕ × A)) → All (λ t. P t.0 t.1) told → map (λ t. t.0) told ≡ numbers → AreTold P numbers told
+told-in_order P numbers told all is = record { each = all; once = subst (λ (ns : List ℕ). IsPermutation numbers ns) (sym is) (IsPermutation-refl numbers) }

@@ -32,6 +32,10 @@ pub record IsReportOf {P A : Type 0} (owns : P → Type 0) (lists : P → Lists)
   pub err : IfErr report.told (RefusesOnly limit (lists report.pass) (Some_of dealt.items (lacks (lists report.pass))))
   pub offers : offered report.pass ≤ sum_by most dealt.items
 
+-- a report of what a hand has
+pub record IsReportFor {P A : Type 0} (owns : P → Type 0) (lists : P → Lists) (offered : P → ℕ) (limit : ℕ) (gives : Lists → ℕ → A → Type 0) (lacks : Lists → ℕ → Type 0) (most : ℕ → ℕ) (hand : Hand P) (report : Report P A) : Type 0 where
+  pub is : IsReportOf owns lists offered limit gives lacks most hand.numbers report
+
 -- the numbers of all reports
 abbrev pub reported : {P A : Type 0} → List (Report P A) → List ℕ
 reported reports = flat_map (λ report. report.numbers.items) reports

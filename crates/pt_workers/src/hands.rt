@@ -1,6 +1,6 @@
 // What a worker is given, and what it hands back.
 ghost use Rattle.std.specs.Prelude.{◌≡◌, All, vec_len, IfOk};
-ghost use Rattle.pt_workers.specs.Reports.{Each, IsHandOf, IsReady, IsReportOf};
+ghost use Rattle.pt_workers.specs.Reports.{Each, IsHandOf, IsReady, IsReportFor};
 
 use crate::share::work_through;
 use crate::work::Work;
@@ -56,7 +56,7 @@ fn work_hand<I: Interner, W: Work>(
     hand: Hand<I::Pass>,
 ) -> Report<I::Pass, W::Answer>
     requires { IsReady (I.owns store.now) I.Pass.lists I.Pass.offered (W.may_begin work.now I.Pass.home) hand }
-    ensures { IsReportOf (I.owns store.now) I.Pass.lists I.Pass.offered (I.limit_of store.now) (W.gives work.now I.Pass.home) (W.lacks work.now I.Pass.home (I.limit_of store.now)) (W.most work.now) hand.numbers result }
+    ensures { IsReportFor (I.owns store.now) I.Pass.lists I.Pass.offered (I.limit_of store.now) (W.gives work.now I.Pass.home) (W.lacks work.now I.Pass.home (I.limit_of store.now)) (W.most work.now) hand result }
 {
     let Hand { mut pass, numbers } = hand;
     let told = work_through(alloc, store, &mut pass, work, &numbers);
@@ -68,20 +68,23 @@ fn work_hand<I: Interner, W: Work>(
 }
 
 /// Works on the numbers of each hand by a thread of its own, where one can be made.
-pub(crate) fn work_each<I: Sharing, W: Work, R: Threads + Sync>(
+pub(crate) fn work_each<I: Sharing, W: Work + Sync, R: Threads + Sync>(
     rt: &R,
     alloc: Global,
     store: &I,
     work: &W,
     hands: Vec<Hand<I::Pass>>,
 ) -> Result<Vec<Report<I::Pass, W::Answer>>, AllocError>
+where
+    I::Pass: Send,
+    W::Answer: Send,
     requires { All (IsReady (I.owns store.now) I.Pass.lists I.Pass.offered (W.may_begin work.now I.Pass.home)) hands.items }
     ensures count { IfOk result (λ v. vec_len v ≡ vec_len hands) }
-    ensures each { IfOk result (λ v. Each (λ hand report. IsReportOf (I.owns store.now) I.Pass.lists I.Pass.offered (I.limit_of store.now) (W.gives work.now I.Pass.home) (W.lacks work.now I.Pass.home (I.limit_of store.now)) (W.most work.now) hand.numbers report) hands.items v.items) }
+    ensures each { IfOk result (λ v. Each (IsReportFor (I.owns store.now) I.Pass.lists I.Pass.offered (I.limit_of store.now) (W.gives work.now I.Pass.home) (W.lacks work.now I.Pass.home (I.limit_of store.now)) (W.most work.now)) hands.items v.items) }
 {
     let each = |hand: Hand<I::Pass>| -> Report<I::Pass, W::Answer>
         requires { IsReady (I.owns store.now) I.Pass.lists I.Pass.offered (W.may_begin work.now I.Pass.home) hand }
-        ensures { IsReportOf (I.owns store.entry.now) I.Pass.lists I.Pass.offered (I.limit_of store.entry.now) (W.gives work.entry.now I.Pass.home) (W.lacks work.entry.now I.Pass.home (I.limit_of store.entry.now)) (W.most work.entry.now) hand.numbers result }
+        ensures { IsReportFor (I.owns store.entry.now) I.Pass.lists I.Pass.offered (I.limit_of store.entry.now) (W.gives work.entry.now I.Pass.home) (W.lacks work.entry.now I.Pass.home (I.limit_of store.entry.now)) (W.most work.entry.now) hand result }
     { work_hand(alloc, store, work, hand) };
     thread::map_vec(rt, hands, &each)
 }

@@ -1,6 +1,6 @@
 // How the reports of workers become one.
 ghost use Rattle.std.specs.Prelude.{◌≡◌, ◌⊎◌, ◌+◌, ◌≤◌, ◌++◌, All, Ok, Err, sum_by, IfOk, IfErr};
-ghost use Rattle.pt_sets.specs.Lists.{Extends};
+ghost use Rattle.pt_sets.specs.Lists.{Extends, IsWithin};
 ghost use Rattle.pt_workers.specs.Works.{AreTold, RefusesOnly, Some_of, no_memory};
 ghost use Rattle.pt_workers.specs.Reports.{IsReportOf, reported};
 
@@ -41,6 +41,7 @@ fn join_one<I: Sharing, W: Work>(
     requires owned { I.owns store.now pass.old }
     requires report { IsReportOf (I.owns store.now) I.Pass.lists I.Pass.offered (I.limit_of store.now) (W.gives work.now I.Pass.home) (W.lacks work.now I.Pass.home (I.limit_of store.now)) (W.most work.now) report.numbers report }
     ensures kept { I.owns store.now pass.new }
+    ensures within { IsWithin (I.limit_of store.now) (I.Pass.lists pass.new) }
     ensures extends { Extends (I.Pass.lists pass.old) (I.Pass.lists pass.new) }
     ensures ok { IfOk result (λ told. AreTold (W.gives work.now I.Pass.home (I.Pass.lists pass.new)) report.numbers.items told.items) }
     ensures err { IfErr result (RefusesOnly (I.limit_of store.now) (I.Pass.lists pass.new) (Some_of report.numbers.items (W.lacks work.now I.Pass.home (I.limit_of store.now) (I.Pass.lists pass.new)))) }

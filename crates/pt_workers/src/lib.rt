@@ -10,3 +10,6 @@ mod working;
 
 pub use work::Work;
 pub use working::{Alone, Working};
+
+#[cfg(test)]
+mod tests;

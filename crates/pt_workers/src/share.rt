@@ -44,7 +44,7 @@ pub(crate) fn work_through<I: Interner, W: Work>(
 /// Works on numbers by so many workers at most: number j of them, from 0, is the work of worker j mod `workers`. Each worker
 /// that has a number works through a pass of its own, in a thread of its own where one can be made. The passes are joined
 /// in the order of the workers. One number, or one worker, is worked on the caller's thread, without a split.
-pub(crate) fn share<I: Sharing, W: Work, R: Threads + Sync>(
+pub(crate) fn share<I: Sharing, W: Work + Sync, R: Threads + Sync>(
     rt: &R,
     alloc: Global,
     store: &I,
@@ -53,6 +53,9 @@ pub(crate) fn share<I: Sharing, W: Work, R: Threads + Sync>(
     numbers: &[u32],
     workers: u32,
 ) -> Result<Vec<(u32, W::Answer)>, StoreFault>
+where
+    I::Pass: Send,
+    W::Answer: Send,
     requires owned { I.owns store.now pass.old }
     requires may_begin { All (W.may_begin work.now I.Pass.home (I.Pass.lists pass.old)) numbers.now }
     requires some_worker { 0 < workers }

@@ -7,9 +7,9 @@ use pt_store::{Codes, Interner, StoreFault};
 use std::alloc::Global;
 
 /// Work on things that have numbers. The work on one asks nothing of that on another, and all of it may be done at once.
-pub trait Work: Sync {
+pub trait Work {
     /// What the work on a number gives.
-    type Answer: Send + Drop;
+    type Answer: Drop;
 
     /// The work on a number may begin: what it builds on stands in the lists.
     ghost may_begin: { Self → Home → Lists → ℕ → Type 0 };

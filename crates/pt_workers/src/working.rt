@@ -3,12 +3,12 @@ ghost use Rattle.std.specs.Prelude.{◌+◌, ◌<◌, ◌≤◌, All, sum_by, If
 ghost use Rattle.pt_sets.specs.Lists.{Extends};
 ghost use Rattle.pt_workers.specs.Works.{AreTold, RefusesOnly, Some_of};
 
-use crate::share::work_through;
+use crate::share::{share, work_through};
 use crate::work::Work;
 use pt_code::{Code, Place};
-use pt_store::{Codes, Interner, StoreFault};
+use pt_store::{Codes, InTurns, Interner, SharedPass, Spread, StoreFault};
 use std::alloc::Global;
-use std::sync::Arc;
+use std::sync::{Arc, Wait};
 use std::thread::Threads;
 
 /// A store over which work is done: it decides on which threads.
@@ -16,7 +16,7 @@ pub trait Working: Interner {
     /// Works on each number once, with at most so many workers. Refuses for want of memory; and with `Full` only where the
     /// list of that shard is at its limit and the lists lack what the work on one of the numbers asks for. Want of memory
     /// goes before a full shard.
-    fn work_all<W: Work, R: Threads + Sync>(
+    fn work_all<W: Work + Sync, R: Threads + Sync>(
         &self,
         rt: &R,
         alloc: Global,
@@ -25,6 +25,8 @@ pub trait Working: Interner {
         numbers: &[u32],
         workers: u32,
     ) -> Result<Vec<(u32, W::Answer)>, StoreFault>
+    where
+        W::Answer: Send,
         requires owned { Self.owns self.now pass.old }
         requires may_begin { All (W.may_begin work.now Self.Pass.home (Self.Pass.lists pass.old)) numbers.now }
         requires some_worker { 0 < workers }
@@ -36,6 +38,7 @@ pub trait Working: Interner {
 }
 
 /// A store that is used on the caller's thread alone, for any number of workers.
+#[derive(Drop)]
 pub struct Alone<'a, I> {
     pub store: &'a I,
 }
@@ -64,7 +67,7 @@ impl<'a, I: Interner> Interner for Alone<'a, I> {
 }
 
 impl<'a, I: Interner> Working for Alone<'a, I> {
-    fn work_all<W: Work, R: Threads + Sync>(
+    fn work_all<W: Work + Sync, R: Threads + Sync>(
         &self,
         _rt: &R,
         alloc: Global,
@@ -72,7 +75,27 @@ impl<'a, I: Interner> Working for Alone<'a, I> {
         work: &W,
         numbers: &[u32],
         _workers: u32,
-    ) -> Result<Vec<(u32, W::Answer)>, StoreFault> {
+    ) -> Result<Vec<(u32, W::Answer)>, StoreFault>
+    where
+        W::Answer: Send,
+    {
         work_through(alloc, self.store, pass, work, numbers)
+    }
+}
+
+impl<'a, T: Wait + Sync, S: Spread + Send + Sync> Working for InTurns<'a, T, S> {
+    fn work_all<W: Work + Sync, R: Threads + Sync>(
+        &self,
+        rt: &R,
+        alloc: Global,
+        pass: &mut SharedPass<S>,
+        work: &W,
+        numbers: &[u32],
+        workers: u32,
+    ) -> Result<Vec<(u32, W::Answer)>, StoreFault>
+    where
+        W::Answer: Send,
+    {
+        share(rt, alloc, self, pass, work, numbers, workers)
     }
 }

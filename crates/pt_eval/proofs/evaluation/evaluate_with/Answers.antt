@@ -12,7 +12,7 @@ use Rattle.pt_eval.specs.Outcomes.{IsSettled, outcome_at, known, costly}
 use Rattle.pt_eval.proofs.MarkLaws.{root-reached}
 use Rattle.pt_eval.proofs.LevelLaws.{plan-ordered, planned-reached, reached-planned}
 use Rattle.pt_eval.proofs.RunLaws.{where-moved, roots-refuse, refused-at, evaluated-at, none-refused, few-residuals, knows-reached, have-solutions, all-roots}
-use Rattle.pt_eval.proofs.evaluation.evaluate.Goals as goal
+use Rattle.pt_eval.proofs.evaluation.evaluate_with.Goals as goal
 
 pub evaluate_rows-requires-clause-ordered : goal.evaluate_rows-requires-clause-ordered
 evaluate_rows-requires-clause-ordered g c κs within =
