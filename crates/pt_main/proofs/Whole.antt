@@ -7,7 +7,7 @@ use Rattle.pt_sets.specs.Lists.{Lists, Home, list_of}
 use Rattle.pt_script.specs.Texts.{too_long}
 use Rattle.pt_main.specs.declared.status.Status.{Status}
 use Rattle.pt_main.specs.declared.status.Status.TheVariants as status
-use Rattle.pt_main.specs.Options.{GiveBound, WordGives}
+use Rattle.pt_main.specs.Options.{GiveBound, WordGives, BothGive, StatesWord, WorkersWord}
 use Rattle.pt_main.specs.Ending.{OfScript, IfWhole, IfFull, IsEnded, HasRoom, Answers, HasRead}
 use Rattle.pt_main.specs.Wanted.{KnowAnswered}
 use Rattle.pt_main.specs.Parts.{EndsWithLine, IsOfText}
@@ -15,24 +15,47 @@ use Rattle.pt_main.proofs.Streaming.{wrote-nothing, wrote-same}
 use Rattle.pt_main.proofs.Endings.{whole, front_of_line, front_of_nothing}
 
 -- a word gives one bound
+states_bound : (word : List ℕ) (m n : ℕ) → StatesWord word m → StatesWord word n → m ≡ n
+states_bound word m n a b = decimal_injective m n (omega (arith, a.1)) (omega (arith, b.1)) (ap (drop 9) (sym a.2 ∙ b.2))
+
+-- a word is not of both kinds
+states_apart : (word : List ℕ) (m v : ℕ) → StatesWord word m → WorkersWord word v → ⊥
+states_apart word m v a b =
+    let third : 115 ≡ 119 = ap (λ (letters : List ℕ). get_or letters 2 0) (sym a.2 ∙ b.2) in
+    omega (arith, third)
+
 word_bound : (word : List ℕ) (m n v w : ℕ) → WordGives word m v → WordGives word n w → m ≡ n
-word_bound word m n v w (inl a) (inl b) = decimal_injective m n (omega (arith, a.0.1)) (omega (arith, b.0.1)) (ap (drop 9) (sym a.0.2 ∙ b.0.2))
-word_bound word m n v w (inl a) (inr b) =
-    let third : 115 ≡ 119 = ap (λ (letters : List ℕ). get_or letters 2 0) (sym a.0.2 ∙ b.0.2) in
-    absurd (omega (arith, third))
-word_bound word m n v w (inr a) (inl b) =
-    let third : 119 ≡ 115 = ap (λ (letters : List ℕ). get_or letters 2 0) (sym a.0.2 ∙ b.0.2) in
-    absurd (omega (arith, third))
+word_bound word m n v w (inl a) (inl b) = states_bound word m n a.0 b.0
+word_bound word m n v w (inl a) (inr b) = absurd (states_apart word m w a.0 b.0)
+word_bound word m n v w (inr a) (inl b) = absurd (states_apart word n v b.0 a.0)
 word_bound word m n v w (inr a) (inr b) = a.1 ∙ sym b.1
+
+both_bound : (first second : List ℕ) (m n v w : ℕ) → BothGive first second m v → BothGive first second n w → m ≡ n
+both_bound first second m n v w (inl a) (inl b) = states_bound first m n a.0 b.0
+both_bound first second m n v w (inl a) (inr b) = absurd (states_apart first m w a.0 b.0)
+both_bound first second m n v w (inr a) (inl b) = absurd (states_apart first n v b.0 a.0)
+both_bound first second m n v w (inr a) (inr b) = states_bound second m n a.1 b.1
+
+-- lists of different lengths differ
+lengths : {xs ys : List (List ℕ)} (words : List (List ℕ)) → words ≡ xs → words ≡ ys → length xs ≡ length ys
+lengths words one two = ap length (sym one ∙ two)
 
 -- the words give one bound
 pub one_bound : (words : List (List ℕ)) (m n : ℕ) → GiveBound words m → GiveBound words n → m ≡ n
 one_bound words m n (v, inl a) (w, inl b) = a.1 ∙ sym b.1
-one_bound words m n (v, inl a) (w, inr b) = let e = sym a.0 ∙ b.1 in cc
-one_bound words m n (v, inr a) (w, inl b) = let e = sym b.0 ∙ a.1 in cc
-one_bound words m n (v, inr a) (w, inr b) =
-    let same : a.0 ≡ b.0 = let e = sym a.1 ∙ b.1 in cc in
-    word_bound a.0 m n v w a.2 (subst (λ (word : List ℕ). WordGives word n w) (sym same) b.2)
+one_bound words m n (v, inl a) (w, inr (inl b)) = let e : 0 ≡ 1 = lengths words a.0 b.1 in absurd (omega (arith, e))
+one_bound words m n (v, inl a) (w, inr (inr b)) = let e : 0 ≡ 2 = lengths words a.0 b.2.0 in absurd (omega (arith, e))
+one_bound words m n (v, inr (inl a)) (w, inl b) = let e : 1 ≡ 0 = lengths words a.1 b.0 in absurd (omega (arith, e))
+one_bound words m n (v, inr (inl a)) (w, inr (inl b)) =
+    let same : b.0 ≡ a.0 = let e = sym b.1 ∙ a.1 in cc in
+    word_bound a.0 m n v w a.2 (subst (λ (word : List ℕ). WordGives word n w) same b.2)
+one_bound words m n (v, inr (inl a)) (w, inr (inr b)) = let e : 1 ≡ 2 = lengths words a.1 b.2.0 in absurd (omega (arith, e))
+one_bound words m n (v, inr (inr a)) (w, inl b) = let e : 2 ≡ 0 = lengths words a.2.0 b.0 in absurd (omega (arith, e))
+one_bound words m n (v, inr (inr a)) (w, inr (inl b)) = let e : 2 ≡ 1 = lengths words a.2.0 b.1 in absurd (omega (arith, e))
+one_bound words m n (v, inr (inr a)) (w, inr (inr b)) =
+    let one : b.0 ≡ a.0 = let e = sym b.2.0 ∙ a.2.0 in cc in
+    let two : b.1 ≡ a.1 = let e = sym b.2.0 ∙ a.2.0 in cc in
+    both_bound a.0 a.1 m n v w a.2.1 (subst (λ (word : List ℕ). BothGive a.0 word n w) two (subst (λ (word : List ℕ). BothGive word b.1 n w) one b.2.1))
 
 -- what holds of the text that was read and of the bound holds of the script
 pub of_text : (left after : Option (List ℕ)) (words : List (List ℕ)) (bound : ℕ) (items shown : List ℕ) (P : List ℕ → ℕ → Type 0) → GiveBound words bound → IfSome left (λ bytes. (items ≡ bytes) × (after ≡ Some [])) → shown ≡ items → P shown bound → OfScript left words P

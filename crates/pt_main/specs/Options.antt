@@ -13,11 +13,16 @@ WorkersWord word workers = (1 ≤ workers) × (workers ≤ 16) × (word ≡ code
 abbrev pub WordGives : List ℕ → ℕ → ℕ → Type 0
 WordGives word bound workers = (StatesWord word bound × (workers ≡ 1)) ⊎ (WorkersWord word workers × (bound ≡ 16384))
 
--- the state bound and the number of workers that the words give: there is one word at most
+-- what two words give, one of each kind
+abbrev pub BothGive : List ℕ → List ℕ → ℕ → ℕ → Type 0
+BothGive first second bound workers = (StatesWord first bound × WorkersWord second workers) ⊎ (WorkersWord first workers × StatesWord second bound)
+
+-- the state bound and the number of workers that the words give: each stands once at most, in any order
 abbrev pub GiveOptions : List (List ℕ) → ℕ → ℕ → Type 0
 GiveOptions words bound workers =
     ((words ≡ []) × (bound ≡ 16384) × (workers ≡ 1))
     ⊎ ((word : List ℕ) × (words ≡ word ∷ []) × WordGives word bound workers)
+    ⊎ ((first second : List ℕ) × (words ≡ first ∷ second ∷ []) × BothGive first second bound workers)
 
 -- the words are the defined ones
 abbrev pub AreOptions : List (List ℕ) → Type 0

@@ -10,9 +10,10 @@ use std::thread::Threads;
 
 mod laws;
 mod sets;
+mod shared;
 
 /// The words of a line, if it is not empty.
-fn words_of(alloc: Global, line: &str) -> Result<Vec<String>, Fail> {
+pub(crate) fn words_of(alloc: Global, line: &str) -> Result<Vec<String>, Fail> {
     let mut words = Vec::new(alloc);
     if !line.is_empty() {
         for word in line.split(' ') {

@@ -1,5 +1,5 @@
 ghost use Rattle.std.specs.Prelude.{◌≡◌, ◌≢◌, ◌<◌, ◌≤◌, ◌↔◌, IsTrue, slice_index, ◌++◌, ℕ, map, codes, decimal, string_bytes, MatchOption, ⊤};
-ghost use Rattle.pt_main.specs.Options.{GiveOptions, AreOptions, AreInRange, StatesWord, WorkersWord, WordGives};
+ghost use Rattle.pt_main.specs.Options.{GiveOptions, AreOptions, AreInRange, StatesWord, WorkersWord, WordGives, BothGive};
 
 use crate::given::Options;
 
@@ -12,8 +12,8 @@ const MAX_BOUND: u32 = 65_536;
 /// The greatest number of workers.
 const MAX_WORKERS: u32 = 16;
 
-/// The options that the words give, if they are the defined ones: none, `--states=B` with B from 1 to 65,536, or
-/// `--workers=N` with N from 1 to 16. What is left out is 16,384 states and one worker.
+/// The options that the words give, if they are the defined ones: `--states=B` with B from 1 to 65,536 and `--workers=N`
+/// with N from 1 to 16, each at most once and in any order. What is left out is 16,384 states and one worker.
 pub fn options(words: &[String]) -> Option<Options>
     ensures some { MatchOption result (¬ AreOptions (map string_bytes words.now)) (λ given. GiveOptions (map string_bytes words.now) given.states given.workers) }
     ensures range { MatchOption result ⊤ (λ given. AreInRange given.states given.workers) }
@@ -24,6 +24,7 @@ pub fn options(words: &[String]) -> Option<Options>
             workers: 1,
         }),
         [word] => option_of(word.as_str()),
+        [first, second] => both_of(first.as_str(), second.as_str()),
         _ => None,
     }
 }
@@ -42,6 +43,25 @@ fn option_of(word: &str) -> Option<Options>
         }),
         None => None,
     }
+}
+
+/// The options that two words give, in any order.
+fn both_of(first: &str, second: &str) -> Option<Options>
+    ensures { MatchOption result ((n m : ℕ) → ¬ BothGive first.now second.now n m) (λ given. BothGive first.now second.now given.states given.workers) }
+{
+    if let Some(given) = in_order(first, second) {
+        return Some(given);
+    }
+    in_order(second, first)
+}
+
+/// The options that two words give, the state bound first.
+fn in_order(first: &str, second: &str) -> Option<Options>
+    ensures { MatchOption result ((n m : ℕ) → StatesWord first.now n → ¬ WorkersWord second.now m) (λ given. StatesWord first.now given.states × WorkersWord second.now given.workers) }
+{
+    let states = states_of(first)?;
+    let workers = workers_of(second)?;
+    Some(Options { states, workers })
 }
 
 /// The number of a word `--states=B`.

@@ -52,9 +52,7 @@ pub(crate) fn evaluate_roots<I: Working, G: Gate, R: Threads + Sync>(
 {
     handles_of_solutions_are_widened_by_tracks();
     let formula = scope.formula();
-    match evaluate_with(
-        rt, alloc, store, pass, formula, roots, bound, workers, gate,
-    ) {
+    match evaluate_with(rt, alloc, store, pass, formula, roots, bound, workers, gate) {
         Ok(handles) => Ok(handles),
         Err(EvalFault::States { node }) => Err(SessionFault::States {
             position: formula.position(node),

@@ -44,9 +44,7 @@ impl Session {
         ensures offers { I.Pass.offered pass.new ≤ I.Pass.offered pass.old + (length self.old.scope.formula + 2) * bound }
     {
         let alone = Alone { store };
-        self.execute_with(
-            rt, alloc, command, &alone, pass, bound, workers, gate,
-        )
+        self.execute_with(rt, alloc, command, &alone, pass, bound, workers, gate)
     }
 
     /// As `execute_with`, by so many workers over a shared store, with a pass that does not hold its shards and is handed
@@ -77,9 +75,7 @@ impl Session {
         ensures offers { result.0.offers ≤ pass.offers + (length self.old.scope.formula + 2) * bound }
     {
         let turns = InTurns::new(rt, store);
-        let answer = self.execute_with(
-            rt, alloc, command, &turns, &mut pass, bound, workers, gate,
-        );
+        let answer = self.execute_with(rt, alloc, command, &turns, &mut pass, bound, workers, gate);
         (pass, answer)
     }
 }
