@@ -123,3 +123,7 @@ told-written told k old mid lt within are =
     subst (λ (o : Outcome). AreWritten (map (λ t. t.0) told) (map (λ t. t.1) told) (k + 1) old (set mid (slice_index_or told k (0, Pending)).0 o)) outcome
     (subst (λ (n : ℕ). AreWritten (map (λ t. t.0) told) (map (λ t. t.1) told) (k + 1) old (set mid n (outcome_at (map (λ t. t.1) told) k))) node
     (written-more (map (λ t. t.0) told) (map (λ t. t.1) told) k old mid inside are))
+
+-- a node of a planned list is one of the formula's
+pub row-nodes : (f : List (Node × Position)) (rows : List (Vec ℕ)) (n : ℕ) (nodes : List ℕ) → nodes ≡ row_of rows n → AreOrdered f rows → (i : ℕ) → ContainsByRecursion i nodes → i < length f
+row-nodes f rows n nodes is ordered i found = ordered.within n i (subst (λ (xs : List ℕ). ContainsByRecursion i xs) is found)
