@@ -16,6 +16,7 @@ use std::thread::Threads;
 const HERE: Position = Position { line: 3, column: 5 };
 
 /// Holds the work at one node until that at another has started, for a while.
+#[derive(Drop)]
 struct Meets {
     first: NodeId,
     second: NodeId,

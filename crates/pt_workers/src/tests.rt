@@ -39,13 +39,13 @@ fn numbers_are_dealt_in_turn(rt: HostRuntime) -> Result<(), Fail> {
     let (store, mut pass) = LocalStore::new(alloc, 1, 10, OneShard)?;
     let alone = Alone { store: &store };
     let told = alone.work_all(&rt, alloc, &mut pass, &Doubles, &[5, 3, 9, 4], 3)?;
-    assert!(rt; told.as_slice() == [(5, 10), (3, 6), (9, 18), (4, 8)]);
+    assert!(rt; told.as_slice() == [(5, 10), (3, 6), (9, 18), (4, 8)].as_slice());
     let (store, mut pass) = SharedStore::new(alloc, 1, 10, OneShard)?;
     let turns = InTurns::new(&rt, &store);
     let told = turns.work_all(&rt, alloc, &mut pass, &Doubles, &[5, 3, 9, 4], 3)?;
-    assert!(rt; told.as_slice() == [(5, 10), (4, 8), (3, 6), (9, 18)]);
+    assert!(rt; told.as_slice() == [(5, 10), (4, 8), (3, 6), (9, 18)].as_slice());
     let told = turns.work_all(&rt, alloc, &mut pass, &Doubles, &[7, 7], 16)?;
-    assert!(rt; told.as_slice() == [(7, 14), (7, 14)]);
+    assert!(rt; told.as_slice() == [(7, 14), (7, 14)].as_slice());
     let told = turns.work_all(&rt, alloc, &mut pass, &Doubles, &[], 16)?;
     assert!(rt; told.is_empty());
     Ok(())

@@ -72,7 +72,7 @@ loop-row-preserved g c =
     let are : AreResults g.I.Pass.Codes.home (g.I.Pass.Codes.lists c.work_all.new.pass) c.args.formula.now c.args.bound (map (λ t. t.0) c.in-Ok-work_all.told.items) (map (λ t. t.1) c.in-Ok-work_all.told.items) = told-results home new f bound told after.ok.each in
     let longer : AreOutcomes g.I.Pass.Codes.home (g.I.Pass.Codes.lists c.work_all.new.pass) c.args.formula.now c.args.bound c.loop-row.outcomes.items = outcomes-longer c.longer_lists_know.ensures home old new after.extends f bound os before.outcomes in
     let written : AreWritten (map (λ t. t.0) c.in-Ok-work_all.told.items) (map (λ t. t.1) c.in-Ok-work_all.told.items) (length (map (λ (t : ℕ × Outcome). t.0) c.in-Ok-work_all.told.items)) c.loop-row.outcomes.items c.write_results.new.outcomes.items =
-    subst (λ (k : ℕ). AreWritten (map (λ t. t.0) c.in-Ok-work_all.told.items) (map (λ t. t.1) c.in-Ok-work_all.told.items) k c.loop-row.outcomes.items c.write_results.new.outcomes.items) (sym (length-map (λ (t : ℕ × Outcome). t.0) told))
+    subst (λ (k : ℕ). AreWritten (map (λ t. t.0) c.in-Ok-work_all.told.items) (map (λ t. t.1) c.in-Ok-work_all.told.items) k c.loop-row.outcomes.items c.write_results.new.outcomes.items) (sym (length-map told (λ (t : ℕ × Outcome). t.0)))
     (subst (λ (ts : List (ℕ × Outcome)). AreWritten (map (λ t. t.0) ts) (map (λ t. t.1) ts) (length ts) c.loop-row.outcomes.items c.write_results.new.outcomes.items) c.deref-in-Ok-work_all.ensures.value c.write_results.ensures) in
     let same : (i : ℕ) → ContainsByRecursion i (map (λ (t : ℕ × Outcome). t.0) c.in-Ok-work_all.told.items) ↔ ContainsByRecursion i (row_of c.args.rows.now c.loop-row.row-index) =
     subst (λ (xs : List ℕ). (i : ℕ) → ContainsByRecursion i (map (λ (t : ℕ × Outcome). t.0) c.in-Ok-work_all.told.items) ↔ ContainsByRecursion i xs) row (told-nodes c.deref-in-loop-row.result.now told after.ok.once) in
