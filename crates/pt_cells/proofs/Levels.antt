@@ -1,7 +1,7 @@
 -- Names of cells in segments, each twice as long as the one before.
 use Rattle.std.proofs.Common.{◌≡◌, ℕ, zero, suc, ◌+◌, ◌-◌, ◌*◌, ◌^◌, ◌<◌, ◌≤◌, Bool, true, false, cond, nat_lt, List, [], ◌∷◌, length, Option, Some, None, slice_get, refl, ap, sym, ◌∙◌, arith, pow_mono, pow-add, pow-suc, lt_of_not-le, mul-le-mul_left}
 use Rattle.std.proofs.lemmas.Bool.Decides.{nat_tests}
-use Rattle.pt_cells.specs.Places.{Keeps, Match, known_of, known_in, known_name, name_from, cells_in}
+use Rattle.pt_cells.specs.Places.{Keeps, Match, known_in, known_name, name_from, cells_in}
 
 -- the place of a position: the highest bit past the first segment's size
 module _ (past top : ℕ) (low : 2 ^ top ≤ past) (high : past < 2 * 2 ^ top) where

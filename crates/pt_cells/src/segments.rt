@@ -1,7 +1,7 @@
 // The directory of a shard: 18 segments, each twice as long as the one before.
 ghost use Rattle.std.specs.Prelude.{◌≡◌, ◌+◌, ◌-◌, ◌*◌, ◌^◌, ◌<◌, Some, IfOk};
 ghost use Rattle.once_cell.specs.Once.{cell_name};
-ghost use Rattle.pt_cells.specs.Places.{names_of, seen_of, Fits, Keeps, Match, known_in, known_name, name_from};
+ghost use Rattle.pt_cells.specs.Places.{names_of, seen_of, Fits, Keeps, known_in, known_name, name_from};
 
 use crate::directory::Directory;
 use crate::slot::{Slot, SlotNote};

@@ -1,5 +1,5 @@
 // Segments that are made when they are first reached.
-ghost use Rattle.std.specs.Prelude.{◌≡◌, ◌<◌, ℕ, List, Some, None, Option, IfOk};
+ghost use Rattle.std.specs.Prelude.{◌≡◌, ◌<◌, ℕ, List, Some, None, IfOk};
 ghost use Rattle.once_cell.specs.Once.{cell_name};
 ghost use Rattle.pt_cells.specs.Places.{known_name};
 

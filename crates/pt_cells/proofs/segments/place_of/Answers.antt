@@ -1,4 +1,4 @@
-use Rattle.std.proofs.Common.{◌+◌, ◌-◌, arith}
+use Rattle.std.proofs.Common.{◌+◌, arith}
 use Rattle.pt_cells.proofs.Levels.{top_above, top_below, place}
 use Rattle.pt_cells.proofs.segments.place_of.Goals as goal
 

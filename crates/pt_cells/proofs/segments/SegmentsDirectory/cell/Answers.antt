@@ -1,4 +1,4 @@
-use Rattle.std.proofs.Common.{◌≡◌, ◌∙◌, ◌+◌, ◌-◌, ◌*◌, ◌^◌, ℕ, List, Option, Some, IfOk, ap, sym, subst, arith}
+use Rattle.std.proofs.Common.{◌≡◌, ◌∙◌, ℕ, List, Option, Some, IfOk, ap, sym, subst}
 use Rattle.once_cell.specs.Once.{cell_name}
 use Rattle.pt_cells.specs.Places.{seen_of, known_in, known_name, name_from}
 use Rattle.pt_cells.proofs.Levels.{name_from-at, name_from-keeps}
