@@ -9,8 +9,6 @@ pub mod laws;
 mod nodes;
 mod pairs;
 mod term;
-#[cfg(test)]
-mod tests;
 
 pub use builders::{choice, divide, magnitude, remainder};
 pub use closing::close;
