@@ -1,5 +1,5 @@
 -- The node by which forms compare holds of the values at which the values of the forms do.
-use Rattle.std.proofs.Common.{◌≡◌, ◌↔◌, ℕ, ◌^◌, ◌<◌, ◌≤◌, Bool, true, false, ◌==◌, if◌then◌else◌, List, [], ◌∷◌, length, Ok, Err, arith, refl, sym, ap, subst, ◌∙◌, eq-eqb}
+use Rattle.std.proofs.Common.{◌≡◌, ◌↔◌, ℕ, ◌^◌, ◌<◌, Bool, true, false, if◌then◌else◌, List, [], ◌∷◌, Ok, arith, refl, eq-eqb}
 use Rattle.std.proofs.lemmas.Bool.{eqb-true, le-leb}
 use Rattle.std.proofs.lemmas.Int.{ints}
 use Rattle.std.specs.Prelude.{ℤ, pos, negsuc, neg_ℤ, ◌+ℤ◌, ◌-ℤ◌, ◌*ℤ◌, ◌≤ℤ◌, ◌<ℤ◌, int_le, unsigned_abs}
@@ -20,7 +20,7 @@ use Rattle.pt_fresh.specs.declared.Relation.TheVariants.{Equal, AtMost, AtLeast,
 use Rattle.pt_fresh.specs.declared.fault.TermFault.TheVariants.{Coefficient}
 use Rattle.pt_fresh.specs.Integers.{Relates, Divides}
 use Rattle.pt_fresh.specs.Making.{NodeList, make, refuse}
-use Rattle.pt_fresh.specs.Pairs.{zero_compares, atom, compared, is_upward, compare, divisible}
+use Rattle.pt_fresh.specs.Pairs.{zero_compares, atom, compared, compare, divisible}
 use Rattle.pt_fresh.specs.Sides.{Means}
 use Rattle.pt_fresh.proofs.StepLaws.{form-then}
 use Rattle.pt_fresh.proofs.Meanings.{NodeLaws, means-node, means-same}

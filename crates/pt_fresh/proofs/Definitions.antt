@@ -1,28 +1,27 @@
 -- The nodes that define a variable: what they mean, and that they have exactly one value of the variable.
-use Rattle.std.proofs.Common.{◌≡◌, ◌≢◌, ◌↔◌, ◌⊎◌, inl, inr, ℕ, zero, suc, ◌^◌, ◌<◌, ◌≤◌, Bool, true, false, ◌==◌, ◌||◌, if◌then◌else◌, List, [], ◌∷◌, length, map, Ok, Err, arith, refl, sym, ap, subst, ◌∙◌, eq-eqb}
+use Rattle.std.proofs.Common.{◌≡◌, ◌≢◌, ◌↔◌, ◌⊎◌, inl, inr, ℕ, zero, suc, ◌^◌, ◌<◌, false, ◌==◌, if◌then◌else◌, List, [], ◌∷◌, length, map, Ok, arith, refl, sym, ap, subst, ◌∙◌, eq-eqb}
 use Rattle.std.proofs.lemmas.Bool.{or_parts}
 use Rattle.std.proofs.lemmas.Bool.Decides.{nat_tests}
 use Rattle.std.proofs.lemmas.Int.{ints}
-use Rattle.std.specs.Prelude.{ℤ, pos, negsuc, ◌+ℤ◌, ◌-ℤ◌, ◌*ℤ◌, ◌≤ℤ◌, ◌<ℤ◌, unsigned_abs}
+use Rattle.std.specs.Prelude.{ℤ, pos, negsuc, ◌+ℤ◌, ◌-ℤ◌, ◌*ℤ◌, ◌≤ℤ◌, unsigned_abs}
 use Rattle.std.specs.List.{AllByRecursion}
 use Rattle.pt_formula.specs.declared.node.Node.TheVariants as node
 use Rattle.pt_formula.specs.declared.node.Position.{Position}
 use Rattle.pt_formula.specs.declared.form.Form.{Form}
 use Rattle.pt_formula.specs.Forms.{Term, AreTerms}
-use Rattle.pt_formula.specs.Formulas.{IsFormula, tree_of, variables_of, contains}
+use Rattle.pt_formula.specs.Formulas.{IsFormula, tree_of, contains}
 use Rattle.pt_formula.specs.Sums.{form_difference, form_scale, form_value}
-use Rattle.pt_formula.specs.Truth.{Tree, Holds, updated, free_variables}
+use Rattle.pt_formula.specs.Truth.{Tree, Holds, updated}
 use Rattle.pt_formula.specs.Values.{terms_value}
 use Rattle.pt_fresh.specs.declared.Relation.{Relation}
 use Rattle.pt_fresh.specs.declared.Relation.TheVariants.{Equal, AtMost}
-use Rattle.pt_fresh.specs.Integers.{IsDivision, IsQuotient, IsRemainder, Divides, Relates}
-use Rattle.pt_fresh.specs.Making.{NodeList, Make, make, form, ◌>>=◌, constant_form, variable_form}
+use Rattle.pt_fresh.specs.Integers.{IsQuotient, IsRemainder, Divides, Relates}
+use Rattle.pt_fresh.specs.Making.{NodeList, make, constant_form, variable_form}
 use Rattle.pt_fresh.specs.Pairs.{compare, divisible}
-use Rattle.pt_fresh.specs.Builders.{size, between, divide, residue_range, multiple_apart, remainder, equal_or_opposite, magnitude, equal_where, choice}
-use Rattle.pt_fresh.specs.Outcomes.{Grows}
+use Rattle.pt_fresh.specs.Builders.{between, divide, residue_range, multiple_apart, remainder, equal_or_opposite, magnitude, equal_where, choice}
 use Rattle.pt_fresh.specs.Sides.{Means, IsDefinite, names}
 use Rattle.pt_fresh.proofs.StepLaws.{follow-ok, form-then, size-then, grows-more}
-use Rattle.pt_fresh.proofs.Meanings.{NodeLaws, HoldsWhere, part, means-same, means-behind, later, means-and, means-or, means-not, same-tree}
+use Rattle.pt_fresh.proofs.Meanings.{NodeLaws, HoldsWhere, part, means-same, means-behind, later, means-and, means-or, means-not}
 use Rattle.pt_fresh.proofs.Comparisons.{FormLaws}
 use Rattle.pt_fresh.proofs.Division.{division, one_division, quotient_iff, remainder_iff, magnitude_iff}
 

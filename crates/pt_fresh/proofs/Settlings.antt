@@ -1,25 +1,23 @@
 -- Nodes over defined variables, closed by their definitions, and the values of terms.
-use Rattle.std.proofs.Common.{◌≡◌, ◌↔◌, ℕ, zero, suc, get_or, drop, drop-cons, ◌<◌, ◌≤◌, Bool, true, false, ◌==◌, if◌then◌else◌, List, [], ◌∷◌, ◌++◌, length, map, Ok, Err, arith, refl, sym, ap, subst, ◌∙◌}
-use Rattle.std.specs.Prelude.{ℤ, Result}
+use Rattle.std.proofs.Common.{◌≡◌, ◌↔◌, ℕ, zero, suc, get_or, drop, drop-cons, ◌<◌, Bool, true, false, if◌then◌else◌, List, [], ◌∷◌, length, Ok, Err, arith, refl, sym, ap, subst, ◌∙◌}
+use Rattle.std.specs.Prelude.{ℤ}
 use Rattle.std.specs.List.{AllByRecursion}
 use Rattle.pt_sets.specs.Elements.{PairsByRecursion}
 use Rattle.pt_formula.specs.declared.node.Node.TheVariants as node
 use Rattle.pt_formula.specs.declared.node.Position.{Position}
-use Rattle.pt_formula.specs.declared.form.Form.{Form}
-use Rattle.pt_formula.specs.declared.fault.FormulaFault.{FormulaFault}
-use Rattle.pt_formula.specs.Formulas.{IsFormula, made, tree_of, node_tree, variables_of, contains}
+use Rattle.pt_formula.specs.Formulas.{IsFormula, made, tree_of, variables_of, contains}
 use Rattle.pt_formula.specs.Sums.{form_value}
 use Rattle.pt_formula.specs.Forms.{Term as Pair}
 use Rattle.pt_formula.specs.Truth.{Tree, Holds, updated, free_variables}
 use Rattle.pt_formula.specs.Values.{terms_value}
 use Rattle.pt_fresh.specs.declared.fault.TermFault.{TermFault}
 use Rattle.pt_fresh.specs.declared.term.Term.{Term}
-use Rattle.pt_fresh.specs.Making.{NodeList, Make, follow, built, make, make_exists}
+use Rattle.pt_fresh.specs.Making.{NodeList, follow, built, make, make_exists}
 use Rattle.pt_fresh.specs.Builders.{bind, close}
 use Rattle.pt_fresh.specs.Outcomes.{Grows}
 use Rattle.pt_fresh.specs.Sides.{Means, IsDefinite, IsSide, IsTerm, Settles, IsValue}
-use Rattle.pt_fresh.proofs.StepLaws.{follow-ok, grows-none, grows-more}
-use Rattle.pt_fresh.proofs.Meanings.{NodeLaws, HoldsWhere, part, means-same, means-behind, means-node, means-and, later, same-tree}
+use Rattle.pt_fresh.proofs.StepLaws.{follow-ok, grows-none}
+use Rattle.pt_fresh.proofs.Meanings.{NodeLaws, means-same, means-behind, means-node, means-and, same-tree}
 use Rattle.pt_fresh.proofs.Definitions.{unaffected}
 
 abbrev pub FreeLaw : Type 0

@@ -1,6 +1,5 @@
 -- What a call returned and left is what a step makes; want of memory may come always.
-use Rattle.std.specs.Prelude.{ℕ, ◌≡◌, ◌⊎◌, ◌≤◌, ◌++◌, List, length, Result, Ok, Err}
-use Rattle.pt_formula.specs.declared.form.Form.{Form}
+use Rattle.std.specs.Prelude.{◌≡◌, ◌⊎◌, ◌≤◌, ◌++◌, length, Result, Ok, Err}
 use Rattle.pt_formula.specs.declared.form.FormFault.{FormFault}
 use Rattle.pt_formula.specs.declared.form.FormFault.TheVariants as form_fault
 use Rattle.pt_formula.specs.declared.node.Position.{Position}

@@ -14,7 +14,7 @@ use pt_formula::{Formula, NodeId, Op, Position, Var};
 use std::alloc::Global;
 
 /// Whether the variable is free in the node.
-fn is_free(formula: &Formula, v: Var, a: NodeId) -> bool
+pub(crate) fn is_free(formula: &Formula, v: Var, a: NodeId) -> bool
     requires { a < length formula.now }
     ensures { result ≡ contains v (variables_of formula.now a) }
 {

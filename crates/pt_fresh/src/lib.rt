@@ -3,12 +3,18 @@
 
 mod builders;
 mod closing;
+#[cfg(test)]
+mod closing_tests;
 mod fault;
 mod forms;
 pub mod laws;
 mod nodes;
 mod pairs;
+#[cfg(test)]
+mod samples;
 mod term;
+#[cfg(test)]
+mod tests;
 
 pub use builders::{choice, divide, magnitude, remainder};
 pub use closing::close;

@@ -1,6 +1,3 @@
-use Rattle.std.proofs.Common.{refl, arith, length-append}
-use Rattle.pt_fresh.specs.Making.{NodeList}
-use Rattle.pt_fresh.specs.Outcomes.{Grows}
 use Rattle.pt_fresh.proofs.Meanings.{NodeLaws}
 use Rattle.pt_fresh.proofs.StepLaws.{grows-append}
 use Rattle.pt_fresh.proofs.Settlings.{side-later, settles-later}

@@ -1,4 +1,3 @@
-use Rattle.std.proofs.Common.{ap}
 use Rattle.pt_formula.specs.Formulas.{tree_of}
 use Rattle.pt_formula.specs.Truth.{free_variables}
 use Rattle.pt_fresh.proofs.Meanings.{NodeLaws}
