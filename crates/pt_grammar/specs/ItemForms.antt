@@ -1,12 +1,13 @@
 -- Forms of the items of commands.
 use Rattle.pt_grammar.specs.declared.item_forms.ItemForm.{ItemForm}
-use Rattle.pt_grammar.specs.declared.item_forms.ItemForm.TheVariants.{Symbol, Numeral, Integer, Sort, Term, Text, SortList, ParameterList, ItemList, Keyword, Value}
+use Rattle.pt_grammar.specs.declared.item_forms.ItemForm.TheVariants.{Symbol, Numeral, Component, Sort, Term, Text, SortList, ParameterList, ItemList, Keyword, Value}
 use Rattle.pt_grammar.specs.declared.item_forms.More.{More}
 use Rattle.pt_grammar.specs.declared.item_forms.More.TheVariants.{Nothing, Maybe, Many}
 use Rattle.std.specs.Prelude.{nat_lt, Bool, true, false, not, ◌&&◌, ◌||◌, if◌then◌else◌, List, [], ◌∷◌, length, Option, Some, None, bytes_eq, codes, is_some}
 use Rattle.std.specs.List.{list_all}
 use Rattle.pt_formula.specs.declared.node.Position.{Position}
 use Rattle.pt_syntax.specs.declared.sexpr.SExpr.{SExpr}
+use Rattle.pt_grammar.specs.Words.{is_truth_name}
 use Rattle.pt_grammar.specs.Exprs.{place_of, symbol_of, numeral_of, keyword_of, text_of, items_of, name_of}
 use Rattle.pt_grammar.specs.Forms.{is_sort, is_variable}
 
@@ -22,7 +23,7 @@ is_negated _ = false
 abbrev pub has_form : ItemForm → SExpr → Bool
 has_form Symbol e = is_some (symbol_of e)
 has_form Numeral e = is_some (numeral_of e)
-has_form Integer e = is_some (numeral_of e) || is_negated (items_of e)
+has_form Component e = is_some (numeral_of e) || is_negated (items_of e) || is_truth_name (name_of (symbol_of e))
 has_form Sort e = is_sort e
 has_form Term e = true
 has_form Text e = is_some (text_of e)

@@ -1,7 +1,7 @@
 -- The table of commands.
 use Rattle.pt_grammar.specs.declared.verbs.Row as declared
 use Rattle.pt_grammar.specs.declared.item_forms.ItemForm.{ItemForm}
-use Rattle.pt_grammar.specs.declared.item_forms.ItemForm.TheVariants.{Symbol, Numeral, Integer, Sort, Term, Text, SortList, ParameterList, ItemList, Keyword, Value}
+use Rattle.pt_grammar.specs.declared.item_forms.ItemForm.TheVariants.{Symbol, Numeral, Component, Sort, Term, Text, SortList, ParameterList, ItemList, Keyword, Value}
 use Rattle.pt_grammar.specs.declared.item_forms.More.{More}
 use Rattle.pt_grammar.specs.declared.item_forms.More.TheVariants.{Nothing, Maybe, Many}
 use Rattle.pt_grammar.specs.declared.verbs.Verb.{Verb}
@@ -40,7 +40,7 @@ table =
     ∷ row (codes "set-empty") SetEmpty (Symbol ∷ []) Nothing
     ∷ row (codes "set-finite") SetFinite (Symbol ∷ []) Nothing
     ∷ row (codes "set-states") SetStates (Symbol ∷ []) Nothing
-    ∷ row (codes "set-member") SetMember (Symbol ∷ []) (Many Integer)
+    ∷ row (codes "set-member") SetMember (Symbol ∷ []) (Many Component)
     ∷ row (codes "set-list") SetList (Symbol ∷ Numeral ∷ []) Nothing
     ∷ []
 

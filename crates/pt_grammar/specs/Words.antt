@@ -3,7 +3,7 @@ use Rattle.pt_grammar.specs.declared.words.Head.{Head}
 use Rattle.pt_grammar.specs.declared.words.Head.TheVariants.{Apply, Let, Exists, Forall, Annotated, LeftOut, Named}
 use Rattle.pt_grammar.specs.declared.words.Operator.TheVariants.{Not, And, Or, Xor, Implies, Distinct, Ite, Plus, Minus, Times, Compare}
 use Rattle.pt_grammar.specs.declared.words.Relation.TheVariants.{Equal, AtMost, Below, AtLeast, Above}
-use Rattle.std.specs.Prelude.{ℕ, Bool, if◌then◌else◌, List, [], ◌∷◌, map, bytes_eq, codes}
+use Rattle.std.specs.Prelude.{ℕ, Bool, ◌||◌, if◌then◌else◌, List, [], ◌∷◌, map, bytes_eq, codes}
 use Rattle.std.specs.List.{list_any}
 
 abbrev pub Name : Type 0
@@ -20,6 +20,10 @@ reserved =
 
 abbrev pub is_reserved : Name → Bool
 is_reserved name = is_among name reserved
+
+-- a symbol of the standard that is a term of its own
+abbrev pub is_truth_name : Name → Bool
+is_truth_name name = bytes_eq name (codes "true") || bytes_eq name (codes "false")
 
 abbrev pub head_among : List (Name × Head) → Name → Head
 head_among [] name = Named

@@ -1,6 +1,7 @@
 // Parts of nested lists.
 ghost use Rattle.std.specs.Prelude.{◌≡◌, option_map, bytes_eq};
 ghost use Rattle.pt_grammar.specs.Exprs.{place_of, symbol_of, numeral_of, keyword_of, text_of, items_of, name_of, items_or_none};
+ghost use Rattle.pt_grammar.specs.Words.{is_truth_name};
 
 use pt_syntax::{Leaf, Position, SExpr};
 
@@ -94,4 +95,11 @@ pub fn is_symbol(e: &SExpr, word: &[u8]) -> bool
     ensures { result ≡ bytes_eq (name_of (symbol_of e.now)) word.now }
 {
     name_in(e) == word
+}
+
+/// Whether an expression is `true` or `false`.
+pub fn is_truth(e: &SExpr) -> bool
+    ensures { result ≡ is_truth_name (name_of (symbol_of e.now)) }
+{
+    is_symbol(e, b"true") || is_symbol(e, b"false")
 }

@@ -6,7 +6,7 @@ ghost use Rattle.pt_grammar.specs.Forms.{is_sort};
 ghost use Rattle.pt_grammar.specs.ItemForms.{has_form, is_negated, more_fault, items_fault};
 ghost use Rattle.pt_grammar.specs.declared.item_forms.More.TheVariants.{Many};
 
-use crate::exprs::{items, keyword, numeral, place, symbol, text};
+use crate::exprs::{is_truth, items, keyword, numeral, place, symbol, text};
 use crate::forms::{are_variables, is_sort_form};
 use crate::words::is;
 use pt_syntax::{Position, SExpr};
@@ -16,7 +16,8 @@ use pt_syntax::{Position, SExpr};
 pub enum ItemForm {
     Symbol,
     Numeral,
-    Integer,
+    /// A component of a vector: an integer or a truth value.
+    Component,
     Sort,
     Term,
     Text,
@@ -68,7 +69,7 @@ fn has_this_form(form: ItemForm, e: &SExpr) -> bool
     match form {
         ItemForm::Symbol => symbol(e).is_some(),
         ItemForm::Numeral => numeral(e).is_some(),
-        ItemForm::Integer => numeral(e).is_some() || is_negated_numeral(e),
+        ItemForm::Component => numeral(e).is_some() || is_negated_numeral(e) || is_truth(e),
         ItemForm::Sort => is_sort_form(e),
         ItemForm::Term => true,
         ItemForm::Text => text(e).is_some(),

@@ -63,7 +63,7 @@ fn fault_in(alloc: Global, text: &[u8]) -> Result<Vec<u8>, AllocError> {
 }
 
 /// Lists, each with the place of its first fault.
-const FAULTS: [(&str, &str); 44] = [
+const FAULTS: [(&str, &str); 46] = [
     ("(let ((x 1)) x)", ""),
     ("(let ((x 1) (y ())) (x y))", ""),
     ("(let)", " 1:1"),
@@ -105,6 +105,8 @@ const FAULTS: [(&str, &str); 44] = [
     ("(echo \"a\")", ""),
     ("(echo a)", " 1:7"),
     ("(set-member p 1 (- 2))", ""),
+    ("(set-member p true 1 |false|)", ""),
+    ("(set-member p true x)", " 1:20"),
     ("(set-member p 1 (+ 2) x)", " 1:17"),
     ("(set-list p 5)", ""),
     ("(sets p)", " 1:2"),

@@ -171,7 +171,7 @@ const TABLE: [Row; 22] = [
         name: b"set-member",
         verb: Verb::SetMember,
         forms: &[ItemForm::Symbol],
-        more: More::Many(ItemForm::Integer),
+        more: More::Many(ItemForm::Component),
     },
     Row {
         name: b"set-list",

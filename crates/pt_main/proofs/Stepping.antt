@@ -49,7 +49,7 @@ keeps_fault s new _ reply h = ap (λ (t : Standing). t.fault) h.1
 
 -- a command that is answered adds no nodes
 after_keeps_nodes : (k : CommandKind) (s : State) → (after k s).formula ≡ s.formula
-after_keeps_nodes (kind.Declare name v) s = refl
+after_keeps_nodes (kind.Declare name v t) s = refl
 after_keeps_nodes (kind.Define d) s = refl
 after_keeps_nodes (kind.Assert t c) s = refl
 after_keeps_nodes (kind.Push n) s = refl

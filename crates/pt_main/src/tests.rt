@@ -8,6 +8,9 @@ use std::process::Abort;
 use std::test::Fail;
 use std::thread::Threads;
 
+mod bool_definitions;
+mod bool_quantifiers;
+mod bools;
 mod laws;
 mod sets;
 

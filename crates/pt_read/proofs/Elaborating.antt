@@ -1,12 +1,10 @@
 -- A scope in which a command is elaborated: what it asks for, and what it is afterwards.
-use Rattle.std.proofs.Common.{◌≡◌, ◌⊎◌, inl, inr, ℕ, ◌<◌, ◌≤◌, List, [], ◌∷◌, ◌++◌, length, map, arith, refl, sym, ap, subst, ◌∙◌}
+use Rattle.std.proofs.Common.{◌≡◌, ℕ, ◌<◌, ◌≤◌, List, [], ◌∷◌, length, arith, refl, sym, ap}
 use Rattle.std.specs.Prelude.{Result, Ok, Err, Some, slice_get, IfOk, IfSome}
 use Rattle.std.specs.List.{AllByRecursion}
-use Rattle.pt_sets.specs.Elements.{ContainsByRecursion}
 use Rattle.pt_formula.specs.declared.node.Node.{Node}
 use Rattle.pt_formula.specs.declared.node.Position.{Position}
-use Rattle.pt_formula.specs.Forms.{Term}
-use Rattle.pt_formula.specs.Formulas.{start as start_formula, node_at, entry_node, children, node_tree, tree_of, variables_of, IsFormula}
+use Rattle.pt_formula.specs.Formulas.{start as start_formula, IsFormula}
 use Rattle.pt_syntax.specs.declared.sexpr.SExpr.{SExpr}
 use Rattle.pt_syntax.specs.declared.kinds.ReadRefusal.{ReadRefusal}
 use Rattle.pt_read.specs.declared.command.Command.{Command}
@@ -15,38 +13,27 @@ use Rattle.pt_terms.specs.declared.meaning.Meaning.TheVariants.{Int, Bool as Tru
 use Rattle.pt_terms.specs.Elaboration.{Work}
 use Rattle.pt_read.specs.Scope.{State, Assertion, conjunction, last_conjunction}
 use Rattle.pt_terms.specs.Names.{Symbol, Use, Constant_of, Defined}
-use Rattle.pt_terms.specs.Sound.{AreBelow, AreTermsBelow, IsMeaningIn, IsUseIn, IsEnvIn}
+use Rattle.pt_terms.specs.Sound.{AreBelow, IsMeaningIn, IsUseIn, IsEnvIn}
 use Rattle.pt_terms.specs.Gives.{Gives, Grows}
-use Rattle.pt_read.specs.Lasting.{IsConstantUpTo, IsUseSound, IsSound}
+use Rattle.pt_read.specs.Lasting.{IsUseSound, IsSound}
 use Rattle.pt_terms.specs.Environment.{outermost}
 use Rattle.pt_read.specs.Context.{LastIs, Stands, commanded, joined, IsKindIn}
-use Rattle.pt_read.specs.Fits.{IsMeaning, free_of}
+use Rattle.pt_read.specs.Fits.{IsMeaning}
 use Rattle.pt_read.specs.Reader.{with_work, Elaborated}
 use Rattle.pt_read.specs.Commands.{elaborate}
-use Rattle.pt_read.proofs.Fitting.{IsStep, start, constants-below, any-constant}
+use Rattle.pt_read.proofs.Fitting.{IsStep, start}
 use Rattle.pt_read.proofs.FittingWhole.{fits-elaborated}
 use Rattle.pt_terms.specs.Free.{Nodes, IsWhole, AreTermsOver}
 
 -- ---- what elaboration asks for
 
-below-given : (s : State) (level : ℕ) (ps : List ℕ) → IsSound s → AllByRecursion (λ v. v < s.given) ps → (v : ℕ) → ContainsByRecursion v ps ⊎ IsConstantUpTo level s.symbols v → v < s.given
-below-given s level ps h all v k = elim k [ inl c ↦ member ps all c | inr c ↦ constants-below s v s.symbols h.symbols (any-constant level v s.symbols c) ]
+use-in : (s : State) (level : ℕ) (u : Use) → IsUseSound s level u → IsUseIn (start s) u
+use-in s level (Constant_of v t) k = k
+use-in s level (Defined ps ss m) k = (meaning m k.1, k.0.1)
   where
-    member : (us : List ℕ) → AllByRecursion (λ v. v < s.given) us → ContainsByRecursion v us → v < s.given
-    member [] h c = absurd c
-    member (u ∷ us) h c = elim c [ inl e ↦ subst (λ x. x < s.given) (sym e) h.0 | inr d ↦ member us h.1 d ]
-
-use-in : (s : State) (level : ℕ) (u : Use) → IsSound s → IsUseSound s level u → IsUseIn (start s) u
-use-in s level (Constant_of v) h k = k
-use-in s level (Defined ps m) h k = (meaning m k.1 k.2, k.0.1)
-  where
-    terms : (ts : List Term) → AllByRecursion (λ v. ContainsByRecursion v ps ⊎ IsConstantUpTo level s.symbols v) (map (λ (t : Term). t.0) ts) → AreTermsBelow s.given ts
-    terms [] d = tt
-    terms (t ∷ ts) d = (below-given s level ps h k.0.1 t.0 d.0, terms ts d.1)
-
-    meaning : (m : Meaning) → IsMeaning s m → AllByRecursion (λ v. ContainsByRecursion v ps ⊎ IsConstantUpTo level s.symbols v) (free_of s m) → IsMeaningIn (start s) m
-    meaning (Int f) range free = (range, terms f.terms free)
-    meaning (Truth i) range free = range
+    meaning : (m : Meaning) → IsMeaning s m → IsMeaningIn (start s) m
+    meaning (Int f) range = range
+    meaning (Truth i) range = range
 
 joined-range : (n c : ℕ) (made : List Assertion) → c < n → AllByRecursion (λ (a : Assertion). a.conjunction < n) made → last_conjunction c made < n
 joined-range n c [] lt h = lt
@@ -57,7 +44,7 @@ scope-names s h = record { bound = tt; live = uses s.symbols h.symbols }
   where
     uses : (xs : List Symbol) → AllByRecursion (λ (x : Symbol). (x.level ≤ s.depth) × IsUseSound s x.level x.stands_for) xs → AllByRecursion (λ (x : Symbol). IsUseIn (start s) x.stands_for) xs
     uses [] k = tt
-    uses (x ∷ xs) k = (use-in s x.level x.stands_for h k.0.1, uses xs k.1)
+    uses (x ∷ xs) k = (use-in s x.level x.stands_for k.0.1, uses xs k.1)
 
 conjunctions-range : (s : State) (made : List Assertion) → AllByRecursion (λ (a : Assertion). (a.level ≤ s.depth) × (a.term < length s.formula) × (a.conjunction < length s.formula)) made → AllByRecursion (λ (a : Assertion). a.conjunction < length s.formula) made
 conjunctions-range s [] k = tt
@@ -86,8 +73,8 @@ scope-stands s = (refl, last s.assertions refl)
 
 -- ---- what it leaves
 
-pub elaborated : ((f : Nodes) → IsFormula f → IsWhole f) → ((f : Nodes) → IsFormula f → AreTermsOver f) → (s : State) (p : Position) (items : List SExpr) (w : Work) (r : Result Command ReadRefusal) → IsFormula w.formula → AreBelow s.formula s.given → IsSound s → Gives (λ c. c) r (start s) w (commanded s p items) → IfOk r (λ c. IsKindIn w c.kind) → Grows (start s) w → Elaborated r s (with_work w s) (elaborate s p items)
+pub elaborated : ((f : Nodes) → IsFormula f → IsWhole f) → ((f : Nodes) → IsFormula f → AreTermsOver f) → (s : State) (p : Position) (items : List SExpr) (w : Work) (r : Result Command ReadRefusal) → IsFormula w.formula → AreBelow s.formula (length s.given) → IsSound s → Gives (λ c. c) r (start s) w (commanded s p items) → IfOk r (λ c. IsKindIn w c.kind) → Grows (start s) w → Elaborated r s (with_work w s) (elaborate s p items)
 elaborated whole terms s p items w (Ok c) formula below sound gives range grows =
-    let step : IsStep s w = record { whole = whole w.formula formula; terms = terms w.formula formula; front = grows.nodes; given = grows.given; below = below; sound = sound } in
+    let step : IsStep s w = record { whole = whole w.formula formula; terms = terms w.formula formula; front = grows.nodes; sorts = grows.sorts; given = grows.given; below = below; sound = sound } in
     (w, gives, refl, fits-elaborated s p items c w step range gives)
 elaborated whole terms s p items w (Err e) formula below sound gives range grows = gives

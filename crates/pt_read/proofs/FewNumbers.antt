@@ -1,6 +1,6 @@
 -- How many variable numbers a command gives out, and how many levels it pushes.
-use Rattle.std.proofs.Common.{◌≡◌, ℕ, zero, suc, ◌+◌, ◌<◌, ◌≤◌, ◌^◌, Bool, true, false, not, ◌||◌, ◌==◌, if◌then◌else◌, List, [], ◌∷◌, length, map, reverse, refl, sym, ap, subst, arith, Option, Some, None}
-use Rattle.std.specs.Prelude.{Result, Ok, Err, ℤ, pos, neg_ℤ, nat_lt, nat_le, bytes_eq, codes, sum_by, IsTrue}
+use Rattle.std.proofs.Common.{◌≡◌, ℕ, zero, suc, ◌+◌, ◌<◌, ◌≤◌, ◌^◌, Bool, true, false, not, ◌||◌, ◌==◌, if◌then◌else◌, List, [], ◌∷◌, ◌++◌, length, length-append, map, reverse, refl, ap, subst, arith, Option, Some, None}
+use Rattle.std.specs.Prelude.{Result, Ok, Err, pos, neg_ℤ, nat_lt, nat_le, bytes_eq, codes, sum_by}
 use Rattle.std.specs.List.{list_all}
 use Rattle.std.proofs.lemmas.Bool.{ltb-true}
 use Rattle.std.proofs.lemmas.List.Sums.{sum_by-cons}
@@ -18,19 +18,21 @@ use Rattle.pt_syntax.specs.declared.sexpr.SExpr.TheOpen as layer
 use Rattle.pt_syntax.specs.declared.sexpr.SExpr.TheOpen.{SExpr-F}
 use Rattle.pt_syntax.specs.Bytes.{numeral_value}
 use Rattle.pt_syntax.specs.Lists.{Script, Done, Stops, Command as Reads_list}
-use Rattle.pt_syntax.specs.Sizes.{layer_size, size_within, script_size}
+use Rattle.pt_syntax.specs.Sizes.{layer_size, size_within}
 use Rattle.pt_grammar.specs.declared.verbs.Verb.{Verb}
 use Rattle.pt_grammar.specs.declared.verbs.Verb.TheVariants as verb
-use Rattle.pt_grammar.specs.Words.{Name, is_reserved, is_among}
+use Rattle.pt_grammar.specs.Words.{Name, is_reserved, is_among, is_truth_name}
 use Rattle.pt_grammar.specs.Exprs.{place_of, symbol_of, numeral_of, items_of, items_of_layer, name_of, text_of, items_or_none}
 use Rattle.pt_grammar.specs.ItemForms.{items_fault}
 use Rattle.pt_grammar.specs.Verbs.{Row, table, row_in}
 use Rattle.pt_terms.specs.declared.meaning.Meaning.{Meaning}
 use Rattle.pt_terms.specs.declared.meaning.Meaning.TheVariants.{Int, Bool as Truth}
-use Rattle.pt_terms.specs.declared.meaning.Constant.{Constant}
+use Rattle.pt_terms.specs.declared.meaning.Sort.{Sort as VariableSort}
+use Rattle.pt_terms.specs.declared.meaning.Sort.TheVariants as sort
+use Rattle.pt_terms.specs.Sorts.{same_sort, same_sorts, sort_of}
 use Rattle.pt_terms.specs.Elaboration.{Work, Elab, give, refuse, follow, ◌>>=◌, require, built, make, fresh, each}
 use Rattle.pt_terms.specs.Names.{Env, Use, Constant_of, Defined, find_symbol, is_live}
-use Rattle.pt_terms.specs.Theory.{nodes_now, form_of, truth_of}
+use Rattle.pt_terms.specs.Theory.{nodes_now, truth_of, of_sort}
 use Rattle.pt_terms.specs.Terms
 use Rattle.pt_terms.specs.Terms.{term, term_within, as_bound}
 use Rattle.pt_terms.specs.Numbers.{AddsAtMost, looks}
@@ -40,7 +42,7 @@ use Rattle.pt_read.specs.declared.command.CommandKind.{CommandKind}
 use Rattle.pt_read.specs.declared.command.CommandKind.TheVariants as kind
 use Rattle.pt_read.specs.Scope.{State, conjunction, after}
 use Rattle.pt_read.specs.Commands
-use Rattle.pt_read.specs.Reader.{IsNext, with_work}
+use Rattle.pt_read.specs.Reader.{IsNext}
 use Rattle.pt_read.specs.Numbers.{numbers_in}
 
 -- ---- steps
@@ -48,7 +50,7 @@ use Rattle.pt_read.specs.Numbers.{numbers_in}
 adds-give : {A : Type 0} (n : ℕ) (a : A) → AddsAtMost n (give a)
 adds-give {A} n a w w' x e =
     let pair : (a, w) ≡ (x, w') = cc in
-    let same : w.given ≡ w'.given = ap (λ (q : A × Work). q.1.given) pair in
+    let same : length w.given ≡ length w'.given = ap (λ (q : A × Work). length q.1.given) pair in
     omega (arith, same)
 
 adds-refuse : {A : Type 0} (n : ℕ) (kind : ReadKind) (p : Position) → AddsAtMost {A = A} n (refuse kind p)
@@ -57,12 +59,12 @@ adds-refuse {A} n kind p w w' x e = absurd cc
 adds-then : {A B : Type 0} (i j : ℕ) (m : Elab A) (f : A → Elab B) → AddsAtMost i m → ((x : A) → AddsAtMost j (f x)) → AddsAtMost (i + j) (m >>= f)
 adds-then {A} {B} i j m f first second w w'' y e = through (m w) refl e
   where
-    through : (r : Result (A × Work) ReadRefusal) → m w ≡ r → follow r f ≡ Ok (y, w'') → w''.given ≤ w.given + (i + j)
+    through : (r : Result (A × Work) ReadRefusal) → m w ≡ r → follow r f ≡ Ok (y, w'') → length w''.given ≤ length w.given + (i + j)
     through (Err refusal) p q = absurd cc
     through (Ok (x, w')) p q = omega (arith, first w w' x p, second x w' w'' y q)
 
 adds-on : {A B : Type 0} (j : ℕ) (m : Elab A) (f : A → Elab B) → AddsAtMost 0 m → ((x : A) → AddsAtMost j (f x)) → AddsAtMost j (m >>= f)
-adds-on j m f first second w w'' y e = let sum : w''.given ≤ w.given + (0 + j) = adds-then 0 j m f first second w w'' y e in omega (arith, sum)
+adds-on j m f first second w w'' y e = let sum : length w''.given ≤ length w.given + (0 + j) = adds-then 0 j m f first second w w'' y e in omega (arith, sum)
 
 adds-more : {A : Type 0} (i j : ℕ) (m : Elab A) → i ≤ j → AddsAtMost i m → AddsAtMost j m
 adds-more i j m le h w w' x e = omega (arith, le, h w w' x e)
@@ -79,23 +81,23 @@ adds-none : {A B : Type 0} (f : A → Elab B) (xs : List A) → ((x : A) → Add
 adds-none f [] h = adds-give 0 []
 adds-none f (x ∷ xs) h = adds-on 0 (f x) (λ y. each f xs >>= λ ys. give (y ∷ ys)) (h x) (λ y. adds-on 0 (each f xs) (λ ys. give (y ∷ ys)) (adds-none f xs h) (λ ys. adds-give 0 (y ∷ ys)))
 
-adds-built : (given n : ℕ) (p : Position) (r : Result (ℕ × List (Node × Position)) FormulaFault) (w' : Work) (a : ℕ) → built given p r ≡ Ok (a, w') → w'.given ≤ given + n
+adds-built : (given : List VariableSort) (n : ℕ) (p : Position) (r : Result (ℕ × List (Node × Position)) FormulaFault) (w' : Work) (a : ℕ) → built given p r ≡ Ok (a, w') → length w'.given ≤ length given + n
 adds-built given n p (Ok r) w' a e =
     let pair : (r.0, record { formula = r.1; given = given }) ≡ (a, w') = cc in
-    let same : given ≡ w'.given = ap (λ (q : ℕ × Work). q.1.given) pair in
+    let same : length given ≡ length w'.given = ap (λ (q : ℕ × Work). length q.1.given) pair in
     omega (arith, same)
 adds-built given n p (Err fault) w' a e = absurd cc
 
-adds-fresh : AddsAtMost 1 fresh
-adds-fresh w w' x e =
-    let pair : (w.given, record { formula = w.formula; given = w.given + 1 }) ≡ (x, w') = cc in
-    let next : w.given + 1 ≡ w'.given = ap (λ (q : ℕ × Work). q.1.given) pair in
-    omega (arith, next)
+adds-fresh : (t : VariableSort) → AddsAtMost 1 (fresh t)
+adds-fresh t w w' x e =
+    let pair : ◌≡◌ {A = ℕ × Work} (length w.given, record { formula = w.formula; given = w.given ++ t ∷ [] }) (x, w') = cc in
+    let next : length (w.given ++ t ∷ []) ≡ length w'.given = ap (λ (q : ℕ × Work). length q.1.given) pair in
+    omega (arith, next, length-append w.given (t ∷ []))
 
 adds-nodes-now : AddsAtMost 0 nodes_now
 adds-nodes-now w w' f e =
     let pair : (w.formula, w) ≡ (f, w') = cc in
-    let same : w.given ≡ w'.given = ap (λ (q : List (Node × Position) × Work). q.1.given) pair in
+    let same : length w.given ≡ length w'.given = ap (λ (q : List (Node × Position) × Work). length q.1.given) pair in
     omega (arith, same)
 
 adds-unless : {A : Type 0} (k : ℕ) (fault : Option Position) (m : Elab A) → AddsAtMost k m → AddsAtMost k (Terms.unless_faulty fault m)
@@ -153,34 +155,26 @@ adds-negated (Some (minus ∷ n ∷ m ∷ more)) e = adds-plain e
 adds-integer : (e : SExpr) → AddsAtMost 0 (Commands.integer e)
 adds-integer e = adds-negated (items_of e) e
 
-adds-int-sort : (e : SExpr) → AddsAtMost 0 (Terms.int_sort e)
-adds-int-sort e = adds-require 0 (bytes_eq (name_of (symbol_of e)) (codes "Int")) Unsupported (place_of e)
-
-adds-declared : (s : State) (name sort : SExpr) → AddsAtMost 1 (Commands.declared s name sort)
-adds-declared s name sort =
-    adds-on 1 (Commands.new_name s name) (λ x. Terms.int_sort sort >>= λ _. fresh >>= λ v. give (kind.Declare x v)) (adds-new-name s name)
-    (λ x. adds-on 1 (Terms.int_sort sort) (λ _. fresh >>= λ v. give (kind.Declare x v)) (adds-int-sort sort)
-    (λ _. adds-then 1 0 fresh (λ v. give (kind.Declare x v)) adds-fresh (λ v. adds-give 0 (kind.Declare x v))))
-
-adds-result-sort : (e : SExpr) → AddsAtMost 0 (Commands.result_sort e)
-adds-result-sort e = by (bytes_eq (name_of (symbol_of e)) (codes "Int")) (bytes_eq (name_of (symbol_of e)) (codes "Bool"))
+adds-named-written : (e : SExpr) → AddsAtMost 0 (Terms.named_sort e)
+adds-named-written e = by (bytes_eq (name_of (symbol_of e)) (codes "Int")) (bytes_eq (name_of (symbol_of e)) (codes "Bool"))
   where
-    by : (a b : Bool) → AddsAtMost 0 (if a then give true else if b then give false else refuse Unsupported (place_of e))
-    by true b = adds-give 0 true
-    by false true = adds-give 0 false
+    by : (a b : Bool) → AddsAtMost 0 (if a then give sort.Int else if b then give sort.Bool else refuse Unsupported (place_of e))
+    by true b = adds-give 0 sort.Int
+    by false true = adds-give 0 sort.Bool
     by false false = adds-refuse 0 Unsupported (place_of e)
+
+adds-declared : (s : State) (name written : SExpr) → AddsAtMost 1 (Commands.declared s name written)
+adds-declared s name written =
+    adds-on 1 (Commands.new_name s name) (λ x. Terms.named_sort written >>= λ t. fresh t >>= λ v. give (kind.Declare x v t)) (adds-new-name s name)
+    (λ x. adds-on 1 (Terms.named_sort written) (λ t. fresh t >>= λ v. give (kind.Declare x v t)) (adds-named-written written)
+    (λ t. adds-then 1 0 (fresh t) (λ v. give (kind.Declare x v t)) (adds-fresh t) (λ v. adds-give 0 (kind.Declare x v t))))
 
 adds-truth-of : (p : Position) (m : Meaning) → AddsAtMost 0 (truth_of p m)
 adds-truth-of p (Truth i) = adds-give 0 i
 adds-truth-of p (Int f) = adds-refuse 0 Sort p
 
-adds-form-of : (p : Position) (m : Meaning) → AddsAtMost 0 (form_of p m)
-adds-form-of p (Int f) = adds-give 0 f
-adds-form-of p (Truth i) = adds-refuse 0 Sort p
-
-adds-of-sort : (b : Bool) (p : Position) (m : Meaning) → AddsAtMost 0 (Commands.of_sort b p m)
-adds-of-sort true p m = adds-on 0 (form_of p m) (λ f. give (Int f)) (adds-form-of p m) (λ f. adds-give 0 (Int f))
-adds-of-sort false p m = adds-on 0 (truth_of p m) (λ i. give (Truth i)) (adds-truth-of p m) (λ i. adds-give 0 (Truth i))
+adds-of-written : (t : VariableSort) (p : Position) (m : Meaning) → AddsAtMost 0 (of_sort t p m)
+adds-of-written t p m = adds-on 0 (require (same_sort t (sort_of m)) Sort p) (λ _. give m) (adds-require 0 (same_sort t (sort_of m)) Sort p) (λ _. adds-give 0 m)
 
 adds-with-pair : {A : Type 0} (k : ℕ) (items : Option (List SExpr)) (p : Position) (f : SExpr → SExpr → Elab A) → ((a b : SExpr) → AddsAtMost k (f a b)) → AddsAtMost k (Terms.with_pair items p f)
 adds-with-pair k None p f h = adds-refuse k Syntax p
@@ -196,12 +190,12 @@ adds-bindable taken s =
 
 adds-variable : (taken : List Name) (e : SExpr) → AddsAtMost 1 (Terms.variable taken e)
 adds-variable taken e =
-    adds-with-pair 1 (items_of e) (place_of e) (λ s sort. Terms.bindable taken s >>= λ name. Terms.int_sort sort >>= λ _. fresh >>= λ v. give (name, v))
-    (λ s sort. adds-on 1 (Terms.bindable taken s) (λ name. Terms.int_sort sort >>= λ _. fresh >>= λ v. give (name, v)) (adds-bindable taken s)
-    (λ name. adds-on 1 (Terms.int_sort sort) (λ _. fresh >>= λ v. give (name, v)) (adds-int-sort sort)
-    (λ _. adds-then 1 0 fresh (λ v. give (name, v)) adds-fresh (λ v. adds-give 0 (name, v)))))
+    adds-with-pair 1 (items_of e) (place_of e) (λ s x. Terms.bindable taken s >>= λ name. Terms.named_sort x >>= λ t. fresh t >>= λ v. give (name, v, t))
+    (λ s x. adds-on 1 (Terms.bindable taken s) (λ name. Terms.named_sort x >>= λ t. fresh t >>= λ v. give (name, v, t)) (adds-bindable taken s)
+    (λ name. adds-on 1 (Terms.named_sort x) (λ t. fresh t >>= λ v. give (name, v, t)) (adds-named-written x)
+    (λ t. adds-then 1 0 (fresh t) (λ v. give (name, v, t)) (adds-fresh t) (λ v. adds-give 0 (name, v, t)))))
 
-adds-parameters : (n : ℕ) (done : List (Name × ℕ)) (es : List SExpr) → AddsAtMost (sum_by (size_within n) es) (Commands.distinct_variables done es)
+adds-parameters : (n : ℕ) (done : List (Name × ℕ × VariableSort)) (es : List SExpr) → AddsAtMost (sum_by (size_within n) es) (Commands.distinct_variables done es)
 adds-parameters n done [] = adds-give 0 done
 adds-parameters n done (e ∷ es) =
     adds-more (1 + sum_by (size_within n) es) (sum_by (size_within n) (e ∷ es)) (Commands.distinct_variables done (e ∷ es)) (omega (arith, sum_by-cons (size_within n) e es, some-size n e))
@@ -218,12 +212,12 @@ adds-conjunction s p t = by (length s.assertions == 0)
     by false = adds-make (node.And (conjunction s) t) p
 
 adds-constant-by : (p : Position) (name : Name) (u : Option Use) → AddsAtMost 0 (Commands.constant_by p name u)
-adds-constant-by p name (Some (Constant_of v)) = adds-give 0 (record { name = name; variable = v })
-adds-constant-by p name (Some (Defined ps m)) = adds-refuse 0 Unsupported p
+adds-constant-by p name (Some (Constant_of v t)) = adds-give 0 (record { name = name; variable = v; sort = t })
+adds-constant-by p name (Some (Defined ps ss m)) = adds-refuse 0 Unsupported p
 adds-constant-by p name None = adds-refuse 0 Unknown p
 
 adds-constant : (s : State) (e : SExpr) (name : Option Name) → AddsAtMost 0 (Commands.constant_of s e name)
-adds-constant s e (Some name) = by (Commands.is_truth_name name)
+adds-constant s e (Some name) = by (is_truth_name name)
   where
     by : (b : Bool) → AddsAtMost 0 (if b then refuse Unsupported (place_of e) else Commands.constant_by (place_of e) name (find_symbol s.symbols name))
     by true = adds-refuse 0 Unsupported (place_of e)
@@ -231,12 +225,12 @@ adds-constant s e (Some name) = by (Commands.is_truth_name name)
 adds-constant s e None = adds-refuse 0 Unsupported (place_of e)
 
 adds-predicate-by : (p : Position) (u : Option Use) → AddsAtMost 0 (Commands.predicate_by p u)
-adds-predicate-by p (Some (Defined ps (Truth body))) =
-    adds-on 0 nodes_now (λ f. require (list_all (λ v. contains v ps) (variables_of f body)) Unsupported p >>= λ _. require (nat_le (length ps) MAX_TRACKS) Tracks p >>= λ _. give (record { parameters = ps; body = body })) adds-nodes-now
-    (λ f. adds-on 0 (require (list_all (λ v. contains v ps) (variables_of f body)) Unsupported p) (λ _. require (nat_le (length ps) MAX_TRACKS) Tracks p >>= λ _. give (record { parameters = ps; body = body })) (adds-require 0 (list_all (λ v. contains v ps) (variables_of f body)) Unsupported p)
-    (λ _. adds-on 0 (require (nat_le (length ps) MAX_TRACKS) Tracks p) (λ _. give (record { parameters = ps; body = body })) (adds-require 0 (nat_le (length ps) MAX_TRACKS) Tracks p) (λ _. adds-give 0 (record { parameters = ps; body = body }))))
-adds-predicate-by p (Some (Defined ps (Int f))) = adds-refuse 0 Sort p
-adds-predicate-by p (Some (Constant_of v)) = adds-refuse 0 Sort p
+adds-predicate-by p (Some (Defined ps ss (Truth body))) =
+    adds-on 0 nodes_now (λ f. require (list_all (λ v. contains v ps) (variables_of f body)) Unsupported p >>= λ _. require (nat_le (length ps) MAX_TRACKS) Tracks p >>= λ _. give (record { parameters = ps; sorts = ss; body = body })) adds-nodes-now
+    (λ f. adds-on 0 (require (list_all (λ v. contains v ps) (variables_of f body)) Unsupported p) (λ _. require (nat_le (length ps) MAX_TRACKS) Tracks p >>= λ _. give (record { parameters = ps; sorts = ss; body = body })) (adds-require 0 (list_all (λ v. contains v ps) (variables_of f body)) Unsupported p)
+    (λ _. adds-on 0 (require (nat_le (length ps) MAX_TRACKS) Tracks p) (λ _. give (record { parameters = ps; sorts = ss; body = body })) (adds-require 0 (nat_le (length ps) MAX_TRACKS) Tracks p) (λ _. adds-give 0 (record { parameters = ps; sorts = ss; body = body }))))
+adds-predicate-by p (Some (Defined ps ss (Int f))) = adds-refuse 0 Sort p
+adds-predicate-by p (Some (Constant_of v t)) = adds-refuse 0 Sort p
 adds-predicate-by p None = adds-refuse 0 Unknown p
 
 adds-predicate : (s : State) (e : SExpr) → AddsAtMost 0 (Commands.predicate s e)
@@ -244,12 +238,35 @@ adds-predicate s e = adds-predicate-by (place_of e) (find_symbol s.symbols (name
 
 adds-two : (s : State) (how : Predicate → Predicate → CommandKind) (a b : SExpr) → AddsAtMost 0 (Commands.two_predicates s how a b)
 adds-two s how a b =
-    adds-on 0 (Commands.predicate s a) (λ x. Commands.predicate s b >>= λ y. require (length x.parameters == length y.parameters) Sort (place_of b) >>= λ _. give (how x y)) (adds-predicate s a)
-    (λ x. adds-on 0 (Commands.predicate s b) (λ y. require (length x.parameters == length y.parameters) Sort (place_of b) >>= λ _. give (how x y)) (adds-predicate s b)
-    (λ y. adds-on 0 (require (length x.parameters == length y.parameters) Sort (place_of b)) (λ _. give (how x y)) (adds-require 0 (length x.parameters == length y.parameters) Sort (place_of b)) (λ _. adds-give 0 (how x y))))
+    adds-on 0 (Commands.predicate s a) (λ x. Commands.predicate s b >>= λ y. require (same_sorts x.sorts y.sorts) Sort (place_of b) >>= λ _. give (how x y)) (adds-predicate s a)
+    (λ x. adds-on 0 (Commands.predicate s b) (λ y. require (same_sorts x.sorts y.sorts) Sort (place_of b) >>= λ _. give (how x y)) (adds-predicate s b)
+    (λ y. adds-on 0 (require (same_sorts x.sorts y.sorts) Sort (place_of b)) (λ _. give (how x y)) (adds-require 0 (same_sorts x.sorts y.sorts) Sort (place_of b)) (λ _. adds-give 0 (how x y))))
 
 adds-one : (s : State) (how : Predicate → CommandKind) (a : SExpr) → AddsAtMost 0 (Commands.predicate s a >>= λ x. give (how x))
 adds-one s how a = adds-on 0 (Commands.predicate s a) (λ x. give (how x)) (adds-predicate s a) (λ x. adds-give 0 (how x))
+
+adds-only : (e : SExpr) (x : Predicate) → AddsAtMost 0 (Commands.only_integers e x)
+adds-only e x = adds-require 0 (list_all (same_sort sort.Int) x.sorts) Unsupported (place_of e)
+
+-- of a predicate of integers alone
+adds-of-integers : (s : State) (how : Predicate → CommandKind) (a : SExpr) → AddsAtMost 0 (Commands.predicate s a >>= λ x. Commands.only_integers a x >>= λ _. give (how x))
+adds-of-integers s how a =
+    adds-on 0 (Commands.predicate s a) (λ x. Commands.only_integers a x >>= λ _. give (how x)) (adds-predicate s a)
+    (λ x. adds-on 0 (Commands.only_integers a x) (λ _. give (how x)) (adds-only a x) (λ _. adds-give 0 (how x)))
+
+adds-component : (t : VariableSort) (e : SExpr) → AddsAtMost 0 (Commands.component t e)
+adds-component sort.Int e =
+    adds-on 0 (require (not (is_truth_name (name_of (symbol_of e)))) Sort (place_of e)) (λ _. Commands.integer e) (adds-require 0 (not (is_truth_name (name_of (symbol_of e)))) Sort (place_of e)) (λ _. adds-integer e)
+adds-component sort.Bool e =
+    adds-on 0 (require (is_truth_name (name_of (symbol_of e))) Sort (place_of e)) (λ _. give (Commands.truth_component (bytes_eq (name_of (symbol_of e)) (codes "true")))) (adds-require 0 (is_truth_name (name_of (symbol_of e))) Sort (place_of e))
+    (λ _. adds-give 0 (Commands.truth_component (bytes_eq (name_of (symbol_of e)) (codes "true"))))
+
+adds-components : (ts : List VariableSort) (es : List SExpr) → AddsAtMost 0 (Commands.components ts es)
+adds-components [] es = adds-give 0 []
+adds-components (t ∷ ts) [] = adds-give 0 []
+adds-components (t ∷ ts) (e ∷ es) =
+    adds-on 0 (Commands.component t e) (λ z. Commands.components ts es >>= λ zs. give (z ∷ zs)) (adds-component t e)
+    (λ z. adds-on 0 (Commands.components ts es) (λ zs. give (z ∷ zs)) (adds-components ts es) (λ zs. adds-give 0 (z ∷ zs)))
 
 -- ---- commands
 
@@ -269,24 +286,24 @@ adds-asserted few s p e =
     (λ t. adds-on 0 (Commands.conjunction_with s p t) (λ c. give (kind.Assert t c)) (adds-conjunction s p t) (λ c. adds-give 0 (kind.Assert t c)))))
 
 -- the parameters and the body of a definition, among its items
-define-size : (name parameters sort body : SExpr) (more : List SExpr) (n : ℕ) → sum_by (size_within n) (items_or_none (items_of parameters)) + (size_within (suc n) body + 0) ≤ sum_by (size_within (suc n)) (name ∷ parameters ∷ sort ∷ body ∷ more)
-define-size name parameters sort body more n =
-    omega (arith, items-within n parameters, sum_by-cons (size_within (suc n)) name (parameters ∷ sort ∷ body ∷ more), sum_by-cons (size_within (suc n)) parameters (sort ∷ body ∷ more), sum_by-cons (size_within (suc n)) sort (body ∷ more), sum_by-cons (size_within (suc n)) body more)
+define-size : (name parameters written body : SExpr) (more : List SExpr) (n : ℕ) → sum_by (size_within n) (items_or_none (items_of parameters)) + (size_within (suc n) body + 0) ≤ sum_by (size_within (suc n)) (name ∷ parameters ∷ written ∷ body ∷ more)
+define-size name parameters written body more n =
+    omega (arith, items-within n parameters, sum_by-cons (size_within (suc n)) name (parameters ∷ written ∷ body ∷ more), sum_by-cons (size_within (suc n)) parameters (written ∷ body ∷ more), sum_by-cons (size_within (suc n)) written (body ∷ more), sum_by-cons (size_within (suc n)) body more)
 
-adds-defined : TermsAddFew → (s : State) (name parameters sort body : SExpr) (n : ℕ) → looks 257 ≡ suc n → AddsAtMost (sum_by (size_within n) (items_or_none (items_of parameters)) + (size_within (suc n) body + 0)) (Commands.defined s name parameters sort body)
+adds-defined : TermsAddFew → (s : State) (name parameters written body : SExpr) (n : ℕ) → looks 257 ≡ suc n → AddsAtMost (sum_by (size_within n) (items_or_none (items_of parameters)) + (size_within (suc n) body + 0)) (Commands.defined s name parameters written body)
 unfolding term
-adds-defined few s name parameters sort body n is =
+adds-defined few s name parameters written body n is =
     let es : List SExpr = items_or_none (items_of parameters) in
     adds-on (sum_by (size_within n) es + (size_within (suc n) body + 0)) (Commands.new_name s name)
-    (λ x. Commands.distinct_variables [] es >>= λ ps. Commands.result_sort sort >>= λ is_int. term (record { bound = map as_bound ps; live = s.symbols }) body >>= λ m. Commands.of_sort is_int (place_of body) m >>= λ k. give (kind.Define (record { name = x; parameters = reverse (map (λ p. p.1) ps); meaning = k }))) (adds-new-name s name)
+    (λ x. Commands.distinct_variables [] es >>= λ ps. Terms.named_sort written >>= λ t. term (record { bound = map as_bound ps; live = s.symbols }) body >>= λ m. of_sort t (place_of body) m >>= λ k. give (kind.Define (record { name = x; parameters = reverse (map (λ p. p.1) ps); sorts = reverse (map (λ p. p.2) ps); meaning = k }))) (adds-new-name s name)
     (λ x. adds-then (sum_by (size_within n) es) (size_within (suc n) body + 0) (Commands.distinct_variables [] es)
-    (λ ps. Commands.result_sort sort >>= λ is_int. term (record { bound = map as_bound ps; live = s.symbols }) body >>= λ m. Commands.of_sort is_int (place_of body) m >>= λ k. give (kind.Define (record { name = x; parameters = reverse (map (λ p. p.1) ps); meaning = k }))) (adds-parameters n [] es)
-    (λ ps. adds-on (size_within (suc n) body + 0) (Commands.result_sort sort)
-    (λ is_int. term (record { bound = map as_bound ps; live = s.symbols }) body >>= λ m. Commands.of_sort is_int (place_of body) m >>= λ k. give (kind.Define (record { name = x; parameters = reverse (map (λ p. p.1) ps); meaning = k }))) (adds-result-sort sort)
-    (λ is_int. adds-then (size_within (suc n) body) 0 (term (record { bound = map as_bound ps; live = s.symbols }) body)
-    (λ m. Commands.of_sort is_int (place_of body) m >>= λ k. give (kind.Define (record { name = x; parameters = reverse (map (λ p. p.1) ps); meaning = k })))
+    (λ ps. Terms.named_sort written >>= λ t. term (record { bound = map as_bound ps; live = s.symbols }) body >>= λ m. of_sort t (place_of body) m >>= λ k. give (kind.Define (record { name = x; parameters = reverse (map (λ p. p.1) ps); sorts = reverse (map (λ p. p.2) ps); meaning = k }))) (adds-parameters n [] es)
+    (λ ps. adds-on (size_within (suc n) body + 0) (Terms.named_sort written)
+    (λ t. term (record { bound = map as_bound ps; live = s.symbols }) body >>= λ m. of_sort t (place_of body) m >>= λ k. give (kind.Define (record { name = x; parameters = reverse (map (λ p. p.1) ps); sorts = reverse (map (λ p. p.2) ps); meaning = k }))) (adds-named-written written)
+    (λ t. adds-then (size_within (suc n) body) 0 (term (record { bound = map as_bound ps; live = s.symbols }) body)
+    (λ m. of_sort t (place_of body) m >>= λ k. give (kind.Define (record { name = x; parameters = reverse (map (λ p. p.1) ps); sorts = reverse (map (λ p. p.2) ps); meaning = k })))
     (subst (λ j. AddsAtMost (size_within j body) (term (record { bound = map as_bound ps; live = s.symbols }) body)) is (few 257 (record { bound = map as_bound ps; live = s.symbols }) body))
-    (λ m. adds-on 0 (Commands.of_sort is_int (place_of body) m) (λ k. give (kind.Define (record { name = x; parameters = reverse (map (λ p. p.1) ps); meaning = k }))) (adds-of-sort is_int (place_of body) m) (λ k. adds-give 0 (kind.Define (record { name = x; parameters = reverse (map (λ p. p.1) ps); meaning = k })))))))
+    (λ m. adds-on 0 (of_sort t (place_of body) m) (λ k. give (kind.Define (record { name = x; parameters = reverse (map (λ p. p.1) ps); sorts = reverse (map (λ p. p.2) ps); meaning = k }))) (adds-of-written t (place_of body) m) (λ k. adds-give 0 (kind.Define (record { name = x; parameters = reverse (map (λ p. p.1) ps); sorts = reverse (map (λ p. p.2) ps); meaning = k })))))))
 
 adds-understood : TermsAddFew → (s : State) (p : Position) (v : Verb) (items : List SExpr) → AddsAtMost (at_most items) (Commands.understood s p v items)
 adds-understood few s p verb.SetLogic [] = adds-refuse (at_most []) Syntax p
@@ -298,22 +315,22 @@ adds-understood few s p verb.SetOption [] = adds-refuse (at_most []) Syntax p
 adds-understood few s p verb.SetOption (key ∷ value) = adds-give (at_most (key ∷ value)) (kind.SetOption (Commands.success_option key value))
 adds-understood few s p verb.DeclareConst [] = adds-refuse (at_most []) Syntax p
 adds-understood few s p verb.DeclareConst (name ∷ []) = adds-refuse (at_most (name ∷ [])) Syntax p
-adds-understood few s p verb.DeclareConst (name ∷ sort ∷ more) =
-    adds-more 1 (at_most (name ∷ sort ∷ more)) (Commands.declared s name sort) (omega (arith, some-size (looks 257) name, first-of (looks 257) name (sort ∷ more))) (adds-declared s name sort)
+adds-understood few s p verb.DeclareConst (name ∷ written ∷ more) =
+    adds-more 1 (at_most (name ∷ written ∷ more)) (Commands.declared s name written) (omega (arith, some-size (looks 257) name, first-of (looks 257) name (written ∷ more))) (adds-declared s name written)
 adds-understood few s p verb.DeclareFun [] = adds-refuse (at_most []) Syntax p
 adds-understood few s p verb.DeclareFun (name ∷ []) = adds-refuse (at_most (name ∷ [])) Syntax p
 adds-understood few s p verb.DeclareFun (name ∷ sorts ∷ []) = adds-refuse (at_most (name ∷ sorts ∷ [])) Syntax p
-adds-understood few s p verb.DeclareFun (name ∷ sorts ∷ sort ∷ more) =
-    adds-more 1 (at_most (name ∷ sorts ∷ sort ∷ more)) (Commands.understood s p verb.DeclareFun (name ∷ sorts ∷ sort ∷ more)) (omega (arith, some-size (looks 257) name, first-of (looks 257) name (sorts ∷ sort ∷ more)))
-    (adds-on 1 (Commands.new_name s name) (λ _. Commands.no_sorts sorts >>= λ _. Commands.declared s name sort) (adds-new-name s name)
-    (λ _. adds-on 1 (Commands.no_sorts sorts) (λ _. Commands.declared s name sort) (adds-require 0 (length (items_or_none (items_of sorts)) == 0) Unsupported (place_of sorts)) (λ _. adds-declared s name sort)))
+adds-understood few s p verb.DeclareFun (name ∷ sorts ∷ written ∷ more) =
+    adds-more 1 (at_most (name ∷ sorts ∷ written ∷ more)) (Commands.understood s p verb.DeclareFun (name ∷ sorts ∷ written ∷ more)) (omega (arith, some-size (looks 257) name, first-of (looks 257) name (sorts ∷ written ∷ more)))
+    (adds-on 1 (Commands.new_name s name) (λ _. Commands.no_sorts sorts >>= λ _. Commands.declared s name written) (adds-new-name s name)
+    (λ _. adds-on 1 (Commands.no_sorts sorts) (λ _. Commands.declared s name written) (adds-require 0 (length (items_or_none (items_of sorts)) == 0) Unsupported (place_of sorts)) (λ _. adds-declared s name written)))
 adds-understood few s p verb.DefineFun [] = adds-refuse (at_most []) Syntax p
 adds-understood few s p verb.DefineFun (name ∷ []) = adds-refuse (at_most (name ∷ [])) Syntax p
 adds-understood few s p verb.DefineFun (name ∷ parameters ∷ []) = adds-refuse (at_most (name ∷ parameters ∷ [])) Syntax p
-adds-understood few s p verb.DefineFun (name ∷ parameters ∷ sort ∷ []) = adds-refuse (at_most (name ∷ parameters ∷ sort ∷ [])) Syntax p
-adds-understood few s p verb.DefineFun (name ∷ parameters ∷ sort ∷ body ∷ more) =
-    adds-more (sum_by (size_within (suc (suc (looks 256)))) (items_or_none (items_of parameters)) + (size_within (suc (suc (suc (looks 256)))) body + 0)) (at_most (name ∷ parameters ∷ sort ∷ body ∷ more)) (Commands.defined s name parameters sort body)
-    (define-size name parameters sort body more (suc (suc (looks 256)))) (adds-defined few s name parameters sort body (suc (suc (looks 256))) refl)
+adds-understood few s p verb.DefineFun (name ∷ parameters ∷ written ∷ []) = adds-refuse (at_most (name ∷ parameters ∷ written ∷ [])) Syntax p
+adds-understood few s p verb.DefineFun (name ∷ parameters ∷ written ∷ body ∷ more) =
+    adds-more (sum_by (size_within (suc (suc (looks 256)))) (items_or_none (items_of parameters)) + (size_within (suc (suc (suc (looks 256)))) body + 0)) (at_most (name ∷ parameters ∷ written ∷ body ∷ more)) (Commands.defined s name parameters written body)
+    (define-size name parameters written body more (suc (suc (looks 256)))) (adds-defined few s name parameters written body (suc (suc (looks 256))) refl)
 adds-understood few s p verb.Assert [] = adds-refuse (at_most []) Syntax p
 adds-understood few s p verb.Assert (e ∷ more) = adds-more (size_within (looks 257) e) (at_most (e ∷ more)) (Commands.asserted s p e) (first-of (looks 257) e more) (adds-asserted few s p e)
 adds-understood few s p verb.CheckSat items = adds-give (at_most items) kind.CheckSat
@@ -337,22 +354,23 @@ adds-understood few s p verb.SetSubset (a ∷ b ∷ more) = adds-no-more (at_mos
 adds-understood few s p verb.SetEmpty [] = adds-refuse (at_most []) Syntax p
 adds-understood few s p verb.SetEmpty (a ∷ more) = adds-no-more (at_most (a ∷ more)) (Commands.understood s p verb.SetEmpty (a ∷ more)) (adds-one s (λ x. kind.SetEmpty x) a)
 adds-understood few s p verb.SetFinite [] = adds-refuse (at_most []) Syntax p
-adds-understood few s p verb.SetFinite (a ∷ more) = adds-no-more (at_most (a ∷ more)) (Commands.understood s p verb.SetFinite (a ∷ more)) (adds-one s (λ x. kind.SetFinite x) a)
+adds-understood few s p verb.SetFinite (a ∷ more) = adds-no-more (at_most (a ∷ more)) (Commands.understood s p verb.SetFinite (a ∷ more)) (adds-of-integers s (λ x. kind.SetFinite x) a)
 adds-understood few s p verb.SetStates [] = adds-refuse (at_most []) Syntax p
-adds-understood few s p verb.SetStates (a ∷ more) = adds-no-more (at_most (a ∷ more)) (Commands.understood s p verb.SetStates (a ∷ more)) (adds-one s (λ x. kind.SetStates x) a)
+adds-understood few s p verb.SetStates (a ∷ more) = adds-no-more (at_most (a ∷ more)) (Commands.understood s p verb.SetStates (a ∷ more)) (adds-of-integers s (λ x. kind.SetStates x) a)
 adds-understood few s p verb.SetMember [] = adds-refuse (at_most []) Syntax p
 adds-understood few s p verb.SetMember (a ∷ values) =
     adds-no-more (at_most (a ∷ values)) (Commands.understood s p verb.SetMember (a ∷ values))
-    (adds-on 0 (Commands.predicate s a) (λ x. require (length values == length x.parameters) Sort p >>= λ _. each Commands.integer values >>= λ zs. give (kind.SetMember x zs)) (adds-predicate s a)
-    (λ x. adds-on 0 (require (length values == length x.parameters) Sort p) (λ _. each Commands.integer values >>= λ zs. give (kind.SetMember x zs)) (adds-require 0 (length values == length x.parameters) Sort p)
-    (λ _. adds-on 0 (each Commands.integer values) (λ zs. give (kind.SetMember x zs)) (adds-none Commands.integer values adds-integer) (λ zs. adds-give 0 (kind.SetMember x zs)))))
+    (adds-on 0 (Commands.predicate s a) (λ x. require (length values == length x.parameters) Sort p >>= λ _. Commands.components x.sorts values >>= λ zs. give (kind.SetMember x zs)) (adds-predicate s a)
+    (λ x. adds-on 0 (require (length values == length x.parameters) Sort p) (λ _. Commands.components x.sorts values >>= λ zs. give (kind.SetMember x zs)) (adds-require 0 (length values == length x.parameters) Sort p)
+    (λ _. adds-on 0 (Commands.components x.sorts values) (λ zs. give (kind.SetMember x zs)) (adds-components x.sorts values) (λ zs. adds-give 0 (kind.SetMember x zs)))))
 adds-understood few s p verb.SetList [] = adds-refuse (at_most []) Syntax p
 adds-understood few s p verb.SetList (a ∷ []) = adds-refuse (at_most (a ∷ [])) Syntax p
 adds-understood few s p verb.SetList (a ∷ n ∷ more) =
     adds-no-more (at_most (a ∷ n ∷ more)) (Commands.understood s p verb.SetList (a ∷ n ∷ more))
-    (adds-on 0 (Commands.predicate s a) (λ x. Commands.number n >>= λ k. require (nat_le k 1000) Unsupported (place_of n) >>= λ _. give (kind.SetList x k)) (adds-predicate s a)
-    (λ x. adds-on 0 (Commands.number n) (λ k. require (nat_le k 1000) Unsupported (place_of n) >>= λ _. give (kind.SetList x k)) (adds-number n)
-    (λ k. adds-on 0 (require (nat_le k 1000) Unsupported (place_of n)) (λ _. give (kind.SetList x k)) (adds-require 0 (nat_le k 1000) Unsupported (place_of n)) (λ _. adds-give 0 (kind.SetList x k)))))
+    (adds-on 0 (Commands.predicate s a) (λ x. Commands.only_integers a x >>= λ _. Commands.number n >>= λ k. require (nat_le k 1000) Unsupported (place_of n) >>= λ _. give (kind.SetList x k)) (adds-predicate s a)
+    (λ x. adds-on 0 (Commands.only_integers a x) (λ _. Commands.number n >>= λ k. require (nat_le k 1000) Unsupported (place_of n) >>= λ _. give (kind.SetList x k)) (adds-only a x)
+    (λ _. adds-on 0 (Commands.number n) (λ k. require (nat_le k 1000) Unsupported (place_of n) >>= λ _. give (kind.SetList x k)) (adds-number n)
+    (λ k. adds-on 0 (require (nat_le k 1000) Unsupported (place_of n)) (λ _. give (kind.SetList x k)) (adds-require 0 (nat_le k 1000) Unsupported (place_of n)) (λ _. adds-give 0 (kind.SetList x k))))))
 
 adds-by-row : TermsAddFew → (s : State) (p q : Position) (r : Option Row) (items : List SExpr) → AddsAtMost (at_most items) (Commands.by_row s p q r items)
 adds-by-row few s p q None items = adds-refuse (at_most items) Unsupported q
@@ -366,9 +384,9 @@ adds-list : TermsAddFew → (s : State) (p : Position) (items : List SExpr) → 
 adds-list few s p [] = adds-refuse (at_most []) Syntax p
 adds-list few s p (head ∷ items) = adds-more (at_most items) (at_most (head ∷ items)) (Commands.named s p (place_of head) (symbol_of head) items) (omega (arith, sum_by-cons (size_within (looks 257)) head items)) (adds-named few s p (place_of head) (symbol_of head) items)
 
-adds-elaborate : TermsAddFew → (s : State) (p : Position) (items : List SExpr) (c : Command) (w : Work) → Commands.elaborate s p items ≡ Ok (c, w) → w.given ≤ s.given + at_most items
+adds-elaborate : TermsAddFew → (s : State) (p : Position) (items : List SExpr) (c : Command) (w : Work) → Commands.elaborate s p items ≡ Ok (c, w) → length w.given ≤ length s.given + at_most items
 adds-elaborate few s p items c w e =
-    let sum : w.given ≤ s.given + (at_most items + 0) = adds-then (at_most items) 0 (Commands.list_command s p items) (λ k. give (record { position = p; kind = k })) (adds-list few s p items) (λ k. adds-give 0 (record { position = p; kind = k })) (record { formula = s.formula; given = s.given }) w c e in
+    let sum : length w.given ≤ length s.given + (at_most items + 0) = adds-then (at_most items) 0 (Commands.list_command s p items) (λ k. give (record { position = p; kind = k })) (adds-list few s p items) (λ k. adds-give 0 (record { position = p; kind = k })) (record { formula = s.formula; given = s.given }) w c e in
     omega (arith, sum)
 
 -- ---- levels
@@ -415,20 +433,25 @@ small-number : (es : List SExpr) → Ends (λ n. n < 2 ^ 63) (Commands.number_or
 small-number [] = ends-give (λ n. n < 2 ^ 63) 1 (omega arith)
 small-number (e ∷ es) = small-numeral (place_of e) (Commands.digits_or_none (numeral_of e))
 
-shallow-declared : (s : State) (name sort : SExpr) → Ends IsShallow (Commands.declared s name sort)
-shallow-declared s name sort =
-    ends-then IsShallow (Commands.new_name s name) (λ x. Terms.int_sort sort >>= λ _. fresh >>= λ v. give (kind.Declare x v))
-    (λ x. ends-then IsShallow (Terms.int_sort sort) (λ _. fresh >>= λ v. give (kind.Declare x v))
-    (λ _. ends-then IsShallow fresh (λ v. give (kind.Declare x v)) (λ v. ends-give IsShallow (kind.Declare x v) tt)))
+shallow-declared : (s : State) (name written : SExpr) → Ends IsShallow (Commands.declared s name written)
+shallow-declared s name written =
+    ends-then IsShallow (Commands.new_name s name) (λ x. Terms.named_sort written >>= λ t. fresh t >>= λ v. give (kind.Declare x v t))
+    (λ x. ends-then IsShallow (Terms.named_sort written) (λ t. fresh t >>= λ v. give (kind.Declare x v t))
+    (λ t. ends-then IsShallow (fresh t) (λ v. give (kind.Declare x v t)) (λ v. ends-give IsShallow (kind.Declare x v t) tt)))
 
 shallow-two : (s : State) (how : Predicate → Predicate → CommandKind) (a b : SExpr) → ((x y : Predicate) → IsShallow (how x y)) → Ends IsShallow (Commands.two_predicates s how a b)
 shallow-two s how a b h =
-    ends-then IsShallow (Commands.predicate s a) (λ x. Commands.predicate s b >>= λ y. require (length x.parameters == length y.parameters) Sort (place_of b) >>= λ _. give (how x y))
-    (λ x. ends-then IsShallow (Commands.predicate s b) (λ y. require (length x.parameters == length y.parameters) Sort (place_of b) >>= λ _. give (how x y))
-    (λ y. ends-then IsShallow (require (length x.parameters == length y.parameters) Sort (place_of b)) (λ _. give (how x y)) (λ _. ends-give IsShallow (how x y) (h x y))))
+    ends-then IsShallow (Commands.predicate s a) (λ x. Commands.predicate s b >>= λ y. require (same_sorts x.sorts y.sorts) Sort (place_of b) >>= λ _. give (how x y))
+    (λ x. ends-then IsShallow (Commands.predicate s b) (λ y. require (same_sorts x.sorts y.sorts) Sort (place_of b) >>= λ _. give (how x y))
+    (λ y. ends-then IsShallow (require (same_sorts x.sorts y.sorts) Sort (place_of b)) (λ _. give (how x y)) (λ _. ends-give IsShallow (how x y) (h x y))))
 
 shallow-one : (s : State) (how : Predicate → CommandKind) (a : SExpr) → ((x : Predicate) → IsShallow (how x)) → Ends IsShallow (Commands.predicate s a >>= λ x. give (how x))
 shallow-one s how a h = ends-then IsShallow (Commands.predicate s a) (λ x. give (how x)) (λ x. ends-give IsShallow (how x) (h x))
+
+shallow-of-integers : (s : State) (how : Predicate → CommandKind) (a : SExpr) → ((x : Predicate) → IsShallow (how x)) → Ends IsShallow (Commands.predicate s a >>= λ x. Commands.only_integers a x >>= λ _. give (how x))
+shallow-of-integers s how a h =
+    ends-then IsShallow (Commands.predicate s a) (λ x. Commands.only_integers a x >>= λ _. give (how x))
+    (λ x. ends-then IsShallow (Commands.only_integers a x) (λ _. give (how x)) (λ _. ends-give IsShallow (how x) (h x)))
 
 shallow-understood : (s : State) (p : Position) (v : Verb) (items : List SExpr) → Ends IsShallow (Commands.understood s p v items)
 unfolding term
@@ -439,27 +462,27 @@ shallow-understood s p verb.SetOption [] = ends-refuse IsShallow Syntax p
 shallow-understood s p verb.SetOption (key ∷ value) = ends-give IsShallow (kind.SetOption (Commands.success_option key value)) tt
 shallow-understood s p verb.DeclareConst [] = ends-refuse IsShallow Syntax p
 shallow-understood s p verb.DeclareConst (name ∷ []) = ends-refuse IsShallow Syntax p
-shallow-understood s p verb.DeclareConst (name ∷ sort ∷ more) = shallow-declared s name sort
+shallow-understood s p verb.DeclareConst (name ∷ written ∷ more) = shallow-declared s name written
 shallow-understood s p verb.DeclareFun [] = ends-refuse IsShallow Syntax p
 shallow-understood s p verb.DeclareFun (name ∷ []) = ends-refuse IsShallow Syntax p
 shallow-understood s p verb.DeclareFun (name ∷ sorts ∷ []) = ends-refuse IsShallow Syntax p
-shallow-understood s p verb.DeclareFun (name ∷ sorts ∷ sort ∷ more) =
-    ends-then IsShallow (Commands.new_name s name) (λ _. Commands.no_sorts sorts >>= λ _. Commands.declared s name sort)
-    (λ _. ends-then IsShallow (Commands.no_sorts sorts) (λ _. Commands.declared s name sort) (λ _. shallow-declared s name sort))
+shallow-understood s p verb.DeclareFun (name ∷ sorts ∷ written ∷ more) =
+    ends-then IsShallow (Commands.new_name s name) (λ _. Commands.no_sorts sorts >>= λ _. Commands.declared s name written)
+    (λ _. ends-then IsShallow (Commands.no_sorts sorts) (λ _. Commands.declared s name written) (λ _. shallow-declared s name written))
 shallow-understood s p verb.DefineFun [] = ends-refuse IsShallow Syntax p
 shallow-understood s p verb.DefineFun (name ∷ []) = ends-refuse IsShallow Syntax p
 shallow-understood s p verb.DefineFun (name ∷ parameters ∷ []) = ends-refuse IsShallow Syntax p
-shallow-understood s p verb.DefineFun (name ∷ parameters ∷ sort ∷ []) = ends-refuse IsShallow Syntax p
-shallow-understood s p verb.DefineFun (name ∷ parameters ∷ sort ∷ body ∷ more) =
+shallow-understood s p verb.DefineFun (name ∷ parameters ∷ written ∷ []) = ends-refuse IsShallow Syntax p
+shallow-understood s p verb.DefineFun (name ∷ parameters ∷ written ∷ body ∷ more) =
     ends-then IsShallow (Commands.new_name s name)
-    (λ x. Commands.distinct_variables [] (items_or_none (items_of parameters)) >>= λ ps. Commands.result_sort sort >>= λ is_int. term (record { bound = map as_bound ps; live = s.symbols }) body >>= λ m. Commands.of_sort is_int (place_of body) m >>= λ k. give (kind.Define (record { name = x; parameters = reverse (map (λ p. p.1) ps); meaning = k })))
+    (λ x. Commands.distinct_variables [] (items_or_none (items_of parameters)) >>= λ ps. Terms.named_sort written >>= λ t. term (record { bound = map as_bound ps; live = s.symbols }) body >>= λ m. of_sort t (place_of body) m >>= λ k. give (kind.Define (record { name = x; parameters = reverse (map (λ p. p.1) ps); sorts = reverse (map (λ p. p.2) ps); meaning = k })))
     (λ x. ends-then IsShallow (Commands.distinct_variables [] (items_or_none (items_of parameters)))
-    (λ ps. Commands.result_sort sort >>= λ is_int. term (record { bound = map as_bound ps; live = s.symbols }) body >>= λ m. Commands.of_sort is_int (place_of body) m >>= λ k. give (kind.Define (record { name = x; parameters = reverse (map (λ p. p.1) ps); meaning = k })))
-    (λ ps. ends-then IsShallow (Commands.result_sort sort)
-    (λ is_int. term (record { bound = map as_bound ps; live = s.symbols }) body >>= λ m. Commands.of_sort is_int (place_of body) m >>= λ k. give (kind.Define (record { name = x; parameters = reverse (map (λ p. p.1) ps); meaning = k })))
-    (λ is_int. ends-then IsShallow (term (record { bound = map as_bound ps; live = s.symbols }) body)
-    (λ m. Commands.of_sort is_int (place_of body) m >>= λ k. give (kind.Define (record { name = x; parameters = reverse (map (λ p. p.1) ps); meaning = k })))
-    (λ m. ends-then IsShallow (Commands.of_sort is_int (place_of body) m) (λ k. give (kind.Define (record { name = x; parameters = reverse (map (λ p. p.1) ps); meaning = k }))) (λ k. ends-give IsShallow (kind.Define (record { name = x; parameters = reverse (map (λ p. p.1) ps); meaning = k })) tt)))))
+    (λ ps. Terms.named_sort written >>= λ t. term (record { bound = map as_bound ps; live = s.symbols }) body >>= λ m. of_sort t (place_of body) m >>= λ k. give (kind.Define (record { name = x; parameters = reverse (map (λ p. p.1) ps); sorts = reverse (map (λ p. p.2) ps); meaning = k })))
+    (λ ps. ends-then IsShallow (Terms.named_sort written)
+    (λ t. term (record { bound = map as_bound ps; live = s.symbols }) body >>= λ m. of_sort t (place_of body) m >>= λ k. give (kind.Define (record { name = x; parameters = reverse (map (λ p. p.1) ps); sorts = reverse (map (λ p. p.2) ps); meaning = k })))
+    (λ t. ends-then IsShallow (term (record { bound = map as_bound ps; live = s.symbols }) body)
+    (λ m. of_sort t (place_of body) m >>= λ k. give (kind.Define (record { name = x; parameters = reverse (map (λ p. p.1) ps); sorts = reverse (map (λ p. p.2) ps); meaning = k })))
+    (λ m. ends-then IsShallow (of_sort t (place_of body) m) (λ k. give (kind.Define (record { name = x; parameters = reverse (map (λ p. p.1) ps); sorts = reverse (map (λ p. p.2) ps); meaning = k }))) (λ k. ends-give IsShallow (kind.Define (record { name = x; parameters = reverse (map (λ p. p.1) ps); sorts = reverse (map (λ p. p.2) ps); meaning = k })) tt)))))
 shallow-understood s p verb.Assert [] = ends-refuse IsShallow Syntax p
 shallow-understood s p verb.Assert (e ∷ more) =
     ends-then IsShallow (term (Commands.env s) e) (λ m. truth_of (place_of e) m >>= λ t. Commands.conjunction_with s p t >>= λ c. give (kind.Assert t c))
@@ -484,20 +507,21 @@ shallow-understood s p verb.SetSubset (a ∷ b ∷ more) = shallow-two s kind.Se
 shallow-understood s p verb.SetEmpty [] = ends-refuse IsShallow Syntax p
 shallow-understood s p verb.SetEmpty (a ∷ more) = shallow-one s (λ x. kind.SetEmpty x) a (λ x. tt)
 shallow-understood s p verb.SetFinite [] = ends-refuse IsShallow Syntax p
-shallow-understood s p verb.SetFinite (a ∷ more) = shallow-one s (λ x. kind.SetFinite x) a (λ x. tt)
+shallow-understood s p verb.SetFinite (a ∷ more) = shallow-of-integers s (λ x. kind.SetFinite x) a (λ x. tt)
 shallow-understood s p verb.SetStates [] = ends-refuse IsShallow Syntax p
-shallow-understood s p verb.SetStates (a ∷ more) = shallow-one s (λ x. kind.SetStates x) a (λ x. tt)
+shallow-understood s p verb.SetStates (a ∷ more) = shallow-of-integers s (λ x. kind.SetStates x) a (λ x. tt)
 shallow-understood s p verb.SetMember [] = ends-refuse IsShallow Syntax p
 shallow-understood s p verb.SetMember (a ∷ values) =
-    ends-then IsShallow (Commands.predicate s a) (λ x. require (length values == length x.parameters) Sort p >>= λ _. each Commands.integer values >>= λ zs. give (kind.SetMember x zs))
-    (λ x. ends-then IsShallow (require (length values == length x.parameters) Sort p) (λ _. each Commands.integer values >>= λ zs. give (kind.SetMember x zs))
-    (λ _. ends-then IsShallow (each Commands.integer values) (λ zs. give (kind.SetMember x zs)) (λ zs. ends-give IsShallow (kind.SetMember x zs) tt)))
+    ends-then IsShallow (Commands.predicate s a) (λ x. require (length values == length x.parameters) Sort p >>= λ _. Commands.components x.sorts values >>= λ zs. give (kind.SetMember x zs))
+    (λ x. ends-then IsShallow (require (length values == length x.parameters) Sort p) (λ _. Commands.components x.sorts values >>= λ zs. give (kind.SetMember x zs))
+    (λ _. ends-then IsShallow (Commands.components x.sorts values) (λ zs. give (kind.SetMember x zs)) (λ zs. ends-give IsShallow (kind.SetMember x zs) tt)))
 shallow-understood s p verb.SetList [] = ends-refuse IsShallow Syntax p
 shallow-understood s p verb.SetList (a ∷ []) = ends-refuse IsShallow Syntax p
 shallow-understood s p verb.SetList (a ∷ n ∷ more) =
-    ends-then IsShallow (Commands.predicate s a) (λ x. Commands.number n >>= λ k. require (nat_le k 1000) Unsupported (place_of n) >>= λ _. give (kind.SetList x k))
-    (λ x. ends-then IsShallow (Commands.number n) (λ k. require (nat_le k 1000) Unsupported (place_of n) >>= λ _. give (kind.SetList x k))
-    (λ k. ends-then IsShallow (require (nat_le k 1000) Unsupported (place_of n)) (λ _. give (kind.SetList x k)) (λ _. ends-give IsShallow (kind.SetList x k) tt)))
+    ends-then IsShallow (Commands.predicate s a) (λ x. Commands.only_integers a x >>= λ _. Commands.number n >>= λ k. require (nat_le k 1000) Unsupported (place_of n) >>= λ _. give (kind.SetList x k))
+    (λ x. ends-then IsShallow (Commands.only_integers a x) (λ _. Commands.number n >>= λ k. require (nat_le k 1000) Unsupported (place_of n) >>= λ _. give (kind.SetList x k))
+    (λ _. ends-then IsShallow (Commands.number n) (λ k. require (nat_le k 1000) Unsupported (place_of n) >>= λ _. give (kind.SetList x k))
+    (λ k. ends-then IsShallow (require (nat_le k 1000) Unsupported (place_of n)) (λ _. give (kind.SetList x k)) (λ _. ends-give IsShallow (kind.SetList x k) tt))))
 
 shallow-by-row : (s : State) (p q : Position) (r : Option Row) (items : List SExpr) → Ends IsShallow (Commands.by_row s p q r items)
 shallow-by-row s p q None items = ends-refuse IsShallow Unsupported q
@@ -528,7 +552,7 @@ low-after kind.Reset s small = omega arith
 low-after _ s small = omega arith
 
 given-after : (k : CommandKind) (s : State) → (after k s).given ≡ s.given
-given-after (kind.Declare name v) s = refl
+given-after (kind.Declare name v t) s = refl
 given-after (kind.Define d) s = refl
 given-after (kind.Assert t c) s = refl
 given-after (kind.Push n) s = refl
@@ -537,12 +561,12 @@ given-after kind.Reset s = refl
 given-after _ s = refl
 
 -- after a command that is read, as much is left as its list does not have
-pub numbers-next : TermsAddFew → (c : Command) (old left : Script) (s t : State) → IsNext (Some c) old s left t → (after c.kind t).given + numbers_in left < s.given + numbers_in old
+pub numbers-next : TermsAddFew → (c : Command) (old left : Script) (s t : State) → IsNext (Some c) old s left t → length (after c.kind t).given + numbers_in left < length s.given + numbers_in old
 numbers-next few c Done left s t next = absurd next
 numbers-next few c (Stops e) left s t next = absurd next
 numbers-next few c (Reads_list p items rest) left s t (w, gives, is, new) =
     let size : numbers_in (Reads_list p items rest) ≡ 1 + at_most items + numbers_in rest = refl in
-    omega (arith, size, ap numbers_in is, adds-elaborate few s p items c w gives, given-after c.kind t, ap (λ (x : State). x.given) new)
+    omega (arith, size, ap numbers_in is, adds-elaborate few s p items c w gives, ap length (given-after c.kind t), ap (λ (x : State). length x.given) new)
 
 pub fewer-next : (c : Command) (old left : Script) (s t : State) → IsNext (Some c) old s left t → numbers_in left < numbers_in old
 fewer-next c Done left s t next = absurd next

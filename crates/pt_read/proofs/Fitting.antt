@@ -22,6 +22,7 @@ use Rattle.pt_terms.specs.Names.{Symbol, Use, Constant_of, Defined, find_symbol,
 use Rattle.pt_terms.specs.Sound.{AreBelow}
 use Rattle.pt_read.specs.Lasting.{IsConstantUpTo, IsUseSound, IsSound}
 use Rattle.pt_read.specs.Fits.{IsConstant, IsMeaning, free_of}
+use Rattle.pt_read.proofs.SortLemmas.{Longer, has-below, have-length}
 use Rattle.pt_read.specs.Commands.{env}
 use Rattle.pt_terms.specs.Free.{IsFront, IsWhole, MeaningIn, UseIn, EnvIn, AreTermsOver}
 
@@ -59,8 +60,9 @@ pub record IsStep (s : State) (w : Work) : Type 0 where
   pub whole : IsWhole w.formula
   pub terms : AreTermsOver w.formula
   pub front : IsFront s.formula w.formula
-  pub given : s.given ≤ w.given
-  pub below : AreBelow s.formula s.given
+  pub sorts : Longer s.given w.given
+  pub given : length s.given ≤ length w.given
+  pub below : AreBelow s.formula (length s.given)
   pub sound : IsSound s
 
 abbrev pub start : State → Work
@@ -115,8 +117,8 @@ symbols-in s w V h (x ∷ xs) all in-s in-v = (by-use x.stands_for refl all.0.1,
     by-meaning ps (Truth i) range free = (range, subst (AllByRecursion (λ v. V v ⊎ ContainsByRecursion v ps)) (sym (old-variables s w h i range)) (over (λ v. ContainsByRecursion v ps ⊎ IsConstantUpTo x.level s.symbols v) (λ v. V v ⊎ ContainsByRecursion v ps) (variables_of s.formula i) (wider ps) free))
 
     by-use : (u : Use) → x.stands_for ≡ u → IsUseSound s x.level u → UseIn V w.formula u (length s.formula)
-    by-use (Constant_of v) e k = in-s v (any-join-left (λ (c : Constant). c.variable ≡ v) (constant_in x x.stands_for) (constants_in xs) (subst (λ u. AnyByRecursion (λ (c : Constant). c.variable ≡ v) (constant_in x u)) (sym e) (inl refl)))
-    by-use (Defined ps m) e k = by-meaning ps m k.1 k.2
+    by-use (Constant_of v t) e k = in-s v (any-join-left (λ (c : Constant). c.variable ≡ v) (constant_in x x.stands_for) (constants_in xs) (subst (λ u. AnyByRecursion (λ (c : Constant). c.variable ≡ v) (constant_in x u)) (sym e) (inl refl)))
+    by-use (Defined ps ss m) e k = (have-length s.given ps ss k.0.1, by-meaning ps m k.1 k.2)
 
 pub scope-env : (s : State) (w : Work) (V : ℕ → Type 0) → IsStep s w → ((v : ℕ) → IsConstant s v → V v) → EnvIn V w.formula (env s) (length s.formula)
 scope-env s w V h in-v = record { bound = tt; live = symbols-in s w V h s.symbols h.sound.symbols in-v in-v }
@@ -147,10 +149,10 @@ found-sound s (x ∷ xs) name u all e = by-name (bytes_eq x.name name) (found-so
     by-name false go k = go k
 
 -- constants' variables were given
-pub constants-below : (s : State) (v : ℕ) (xs : List Symbol) → AllByRecursion (λ (x : Symbol). (x.level ≤ s.depth) × IsUseSound s x.level x.stands_for) xs → AnyByRecursion (λ (c : Constant). c.variable ≡ v) (constants_in xs) → v < s.given
+pub constants-below : (s : State) (v : ℕ) (xs : List Symbol) → AllByRecursion (λ (x : Symbol). (x.level ≤ s.depth) × IsUseSound s x.level x.stands_for) xs → AnyByRecursion (λ (c : Constant). c.variable ≡ v) (constants_in xs) → v < length s.given
 constants-below s v [] all h = absurd h
 constants-below s v (x ∷ xs) all h = elim (any-split (λ (c : Constant). c.variable ≡ v) (constant_in x x.stands_for) (constants_in xs) h) [ inl k ↦ by-use x.stands_for all.0.1 k | inr k ↦ constants-below s v xs all.1 k ]
   where
-    by-use : (u : Use) → IsUseSound s x.level u → AnyByRecursion (λ (c : Constant). c.variable ≡ v) (constant_in x u) → v < s.given
-    by-use (Constant_of c) k d = elim d [ inl same ↦ subst (λ z. z < s.given) same k | inr out ↦ absurd out ]
-    by-use (Defined ps m) k d = absurd d
+    by-use : (u : Use) → IsUseSound s x.level u → AnyByRecursion (λ (c : Constant). c.variable ≡ v) (constant_in x u) → v < length s.given
+    by-use (Constant_of c t) k d = elim d [ inl same ↦ subst (λ z. z < length s.given) same (has-below s.given c t k) | inr out ↦ absurd out ]
+    by-use (Defined ps ss m) k d = absurd d

@@ -25,7 +25,7 @@ use Rattle.pt_grammar.specs.ItemForms
 use Rattle.pt_grammar.specs.declared.item_forms.ItemForm.TheVariants as form
 use Rattle.pt_grammar.specs.declared.item_forms.More.TheVariants as behind
 use Rattle.pt_read.proofs.Fitting.{then-inv, give-inv, require-inv, IsStep, start}
-use Rattle.pt_read.proofs.FittingCommands.{fits-give, fits-declared, fits-asserted, fits-values, fits-two, fits-one, fits-member, fits-list, new-name-inv}
+use Rattle.pt_read.proofs.FittingCommands.{fits-give, fits-declared, fits-asserted, fits-values, fits-two, fits-one, fits-integers, fits-member, fits-list, new-name-inv}
 use Rattle.pt_read.proofs.FittingDefinitions.{fits-defined}
 
 -- what the form of its items tells of a command
@@ -90,9 +90,9 @@ fits-understood s p verb.SetSubset (a ∷ b ∷ more) k w' h r i e = fits-two s 
 fits-understood s p verb.SetEmpty [] k w' h r i e = absurd cc
 fits-understood s p verb.SetEmpty (a ∷ more) k w' h r i e = fits-one s w' h kind.SetEmpty (λ x l. l) a k e
 fits-understood s p verb.SetFinite [] k w' h r i e = absurd cc
-fits-understood s p verb.SetFinite (a ∷ more) k w' h r i e = fits-one s w' h kind.SetFinite (λ x l. l) a k e
+fits-understood s p verb.SetFinite (a ∷ more) k w' h r i e = fits-integers s w' h kind.SetFinite (λ x l. l) a k e
 fits-understood s p verb.SetStates [] k w' h r i e = absurd cc
-fits-understood s p verb.SetStates (a ∷ more) k w' h r i e = fits-one s w' h kind.SetStates (λ x l. l) a k e
+fits-understood s p verb.SetStates (a ∷ more) k w' h r i e = fits-integers s w' h kind.SetStates (λ x l. l) a k e
 fits-understood s p verb.SetMember [] k w' h r i e = absurd cc
 fits-understood s p verb.SetMember (a ∷ values) k w' h r i e = fits-member s w' h p a values k e
 fits-understood s p verb.SetList [] k w' h r i e = absurd cc

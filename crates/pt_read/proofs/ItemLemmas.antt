@@ -1,16 +1,26 @@
 -- Items that are missing.
-use Rattle.std.proofs.Common.{◌≡◌, ℕ, zero, suc, ◌<◌, ◌||◌, true, false, if◌then◌else◌, List, [], ◌∷◌, map, drop, length, Option, Some, None, IfSome, option_map, refl, ap, sym, subst, ◌∙◌, ◌≤◌, get_or, arith}
-use Rattle.std.specs.Prelude.{bytes_eq, is_some}
+use Rattle.std.proofs.Common.{◌≡◌, ℕ, ◌<◌, ◌||◌, true, false, if◌then◌else◌, List, [], ◌∷◌, drop, length, Option, Some, None, IfSome, option_map, refl, ap, sym, subst, ◌∙◌, ◌≤◌, get_or, arith}
+use Rattle.std.specs.Prelude.{bytes_eq, is_some, Ok}
 use Rattle.std.specs.List.{AllByRecursion}
-use Rattle.pt_terms.specs.Elaboration.{Work}
+use Rattle.pt_terms.specs.declared.meaning.Meaning.{Meaning}
+use Rattle.pt_terms.specs.declared.meaning.Sort.{Sort}
+use Rattle.pt_terms.specs.Elaboration.{Work, give, ◌>>=◌, require}
 use Rattle.pt_terms.specs.Environment.{outermost}
 use Rattle.pt_grammar.specs.Words.{Name}
-use Rattle.pt_terms.specs.Names.{Use, Symbol, find_symbol, is_live, Env}
+use Rattle.pt_terms.specs.Names.{Use, Defined, Symbol, find_symbol, is_live, Env}
 use Rattle.pt_read.specs.Scope.{State, Assertion}
 use Rattle.pt_terms.specs.Sound.{IsUseIn, IsEnvIn}
 use Rattle.pt_read.specs.Context.{IsStateIn}
-use Rattle.pt_terms.specs.Gives.{Grows}
-use Rattle.pt_formula.specs.declared.node.Position.{Position}
+use Rattle.pt_terms.specs.Gives.{Fails, Grows}
+use Rattle.pt_terms.specs.Sorts.{same_sorts}
+use Rattle.pt_grammar.specs.Exprs.{place_of}
+use Rattle.pt_syntax.specs.declared.kinds.ReadKind.TheVariants.{Sort as WrongSort}
+use Rattle.pt_syntax.specs.declared.kinds.ReadRefusal.{ReadRefusal}
+use Rattle.pt_read.specs.declared.command.CommandKind.{CommandKind}
+use Rattle.pt_read.specs.declared.command.Predicate.{Predicate}
+use Rattle.pt_read.specs.Commands.{predicate, two_predicates}
+use Rattle.pt_read.proofs.Steps.{fails_first, given_then}
+use Rattle.pt_read.proofs.SortLemmas.{have-length}
 use Rattle.pt_syntax.specs.declared.sexpr.SExpr.{SExpr}
 
 -- a name is live exactly where it stands for something
@@ -87,3 +97,18 @@ just_two [] a b h k e f = absurd (omega arith)
 just_two (x ∷ []) a b h k e f = absurd (omega arith)
 just_two (x ∷ y ∷ []) a b h k e f = rw (e, f) refl
 just_two (x ∷ y ∷ z ∷ xs) a b h k e f = absurd (omega arith)
+
+-- a definition that is found has one sort for each parameter
+pub found_sorts : {X : Type 0} (w : Work) (show : X → Use) (found : Option X) (x : X) (ps : List ℕ) (ss : List Sort) (m : Meaning) → found ≡ Some x → show x ≡ Defined ps ss m → IfSome found (λ y. IsUseIn w (show y)) → length ss ≡ length ps
+found_sorts w show found x ps ss m is shown h =
+    let inside : IsUseIn w (show x) = subst (λ o. IfSome o (λ y. IsUseIn w (show y))) is h in
+    let range : IsUseIn w (Defined ps ss m) = subst (IsUseIn w) shown inside in
+    have-length w.given ps ss range.1
+
+-- predicates with parameters of other sorts are refused
+pub other_sorts : (s : State) (to : Predicate → Predicate → CommandKind) (a b : SExpr) (x y : Predicate) (w : Work) (e : ReadRefusal) → predicate s a w ≡ Ok (x, w) → predicate s b w ≡ Ok (y, w) → Fails e (require (same_sorts x.sorts y.sorts) WrongSort (place_of b) w) → Fails e (two_predicates s to a b w)
+other_sorts s to a b x y w e first second test =
+    subst (Fails e)
+    (sym (given_then (predicate s a) (λ x. predicate s b >>= λ y. require (same_sorts x.sorts y.sorts) WrongSort (place_of b) >>= λ _. give (to x y)) w w x first
+    ∙ given_then (predicate s b) (λ y. require (same_sorts x.sorts y.sorts) WrongSort (place_of b) >>= λ _. give (to x y)) w w y second))
+    (fails_first (require (same_sorts x.sorts y.sorts) WrongSort (place_of b)) (λ _. give (to x y)) w e test)

@@ -1,16 +1,16 @@
 -- An elaborated command keeps the formula well formed, over variables that have been given out.
-use Rattle.std.proofs.Common.{◌≡◌, ℕ, ◌+◌, ◌<◌, ◌==◌, nat_le, not, Bool, true, false, ◌||◌, if◌then◌else◌, List, [], ◌∷◌, ◌++◌, length, map, arith, refl, sym, ap, subst, append-nil, append_assoc, ◌∙◌}
+use Rattle.std.proofs.Common.{◌≡◌, inl, inr, length-append, ℕ, ◌+◌, ◌<◌, ◌==◌, nat_le, not, Bool, true, false, ◌||◌, if◌then◌else◌, List, [], ◌∷◌, ◌++◌, length, map, arith, refl, sym, ap, subst, append-nil, append_assoc, ◌∙◌}
 use Rattle.std.specs.Prelude.{Result, Ok, Err, Option, Some, None, ⊤, bytes_eq, codes, nat_lt, ◌^◌, reverse, neg_ℤ, pos}
 use Rattle.std.specs.List.{AllByRecursion, list_all}
 use Rattle.pt_formula.specs.declared.node.Position.{Position}
 use Rattle.pt_formula.specs.declared.TheConstants.{MAX_TRACKS}
-use Rattle.pt_formula.specs.Formulas.{variables_of, contains}
+use Rattle.pt_formula.specs.Formulas.{node_at, variables_of, contains}
 use Rattle.pt_syntax.specs.Bytes.{numeral_value}
 use Rattle.pt_syntax.specs.declared.sexpr.SExpr.{SExpr}
 use Rattle.pt_syntax.specs.declared.kinds.ReadKind.{ReadKind}
 use Rattle.pt_syntax.specs.declared.kinds.ReadKind.TheVariants.{Syntax, Unknown, Sort, Coefficient, Unsupported, Redeclared, Tracks, Logic}
 use Rattle.pt_syntax.specs.declared.kinds.ReadRefusal.{ReadRefusal}
-use Rattle.pt_grammar.specs.Words.{Name, is_reserved, is_among}
+use Rattle.pt_grammar.specs.Words.{Name, is_reserved, is_among, is_truth_name}
 use Rattle.pt_grammar.specs.Exprs.{place_of, symbol_of, numeral_of, text_of, items_of, name_of, items_or_none}
 use Rattle.pt_grammar.specs.declared.verbs.Verb.{Verb}
 use Rattle.pt_grammar.specs.declared.verbs.Verb.TheVariants as verb
@@ -18,13 +18,20 @@ use Rattle.pt_grammar.specs.ItemForms.{items_fault}
 use Rattle.pt_grammar.specs.Verbs.{Row, table, row_in}
 use Rattle.pt_terms.specs.declared.meaning.Meaning.{Meaning}
 use Rattle.pt_terms.specs.declared.meaning.Meaning.TheVariants.{Int, Bool as Truth}
-use Rattle.pt_terms.specs.Elaboration.{Work, Elab, give, refuse, follow, ◌>>=◌, require, fresh, each, variable_form}
+use Rattle.pt_terms.specs.Elaboration.{Work, Elab, give, refuse, follow, ◌>>=◌, require, fresh, each}
+use Rattle.pt_terms.specs.declared.meaning.Sort.{Sort as VariableSort}
+use Rattle.pt_terms.specs.declared.meaning.Sort.TheVariants as sort
+use Rattle.pt_terms.specs.declared.meaning.Bound.{Bound}
+use Rattle.pt_formula.specs.declared.node.Node.{Node}
+use Rattle.pt_formula.specs.declared.node.Node.TheVariants as node
 use Rattle.pt_terms.specs.Names.{Use, Constant_of, Defined, find_symbol, is_live, Env}
 use Rattle.pt_terms.specs.Gives.{Grows}
-use Rattle.pt_terms.specs.Sound.{IsMeaningIn, IsEnvIn}
+use Rattle.pt_terms.specs.Sorts.{HasSort, IsSorted, same_sort, same_sorts, sort_of}
+use Rattle.pt_terms.specs.Sound.{IsMeaningIn, IsBoundIn, IsEnvIn}
+use Rattle.pt_read.proofs.SortLemmas.{has-last, has-more, integers-more}
 use Rattle.pt_terms.specs.Terms
-use Rattle.pt_terms.specs.Terms.{term, int_sort, as_bound, numeral, unless_faulty}
-use Rattle.pt_terms.specs.Theory.{truth_of, nodes_now}
+use Rattle.pt_terms.specs.Terms.{term, named_sort, as_bound, numeral, unless_faulty}
+use Rattle.pt_terms.specs.Theory.{truth_of, nodes_now, of_sort}
 use Rattle.pt_terms.specs.Keeps.{IsSoundWork, Keeps, IsNodeIn, TermsKeep, ConjunctionsKeep}
 use Rattle.pt_terms.specs.Environment.{outermost}
 use Rattle.pt_read.specs.declared.command.Command.{Command}
@@ -39,12 +46,13 @@ use Rattle.pt_read.proofs.Fitting.{start}
 -- ---- steps
 
 grows-same : (w : Work) → Grows w w
-grows-same w = record { nodes = ([], sym (append-nil w.formula)); count = omega arith; given = omega arith }
+grows-same w = record { nodes = ([], sym (append-nil w.formula)); count = omega arith; sorts = ([], sym (append-nil w.given)); given = omega arith }
 
 grows-trans : (u v w : Work) → Grows u v → Grows v w → Grows u w
 grows-trans u v w g h = record {
   nodes = (g.nodes.0 ++ h.nodes.0, h.nodes.1 ∙ ap (λ f. f ++ h.nodes.0) g.nodes.1 ∙ append_assoc u.formula g.nodes.0 h.nodes.0);
   count = omega arith;
+  sorts = (g.sorts.0 ++ h.sorts.0, h.sorts.1 ∙ ap (λ ss. ss ++ h.sorts.0) g.sorts.1 ∙ append_assoc u.given g.sorts.0 h.sorts.0);
   given = omega arith;
 }
 
@@ -79,18 +87,41 @@ keeps-require false k p w = keeps-refuse Anything k p w
 keeps-tested : {A : Type 0} (P : A → Work → Type 0) (b : Bool) (k : ReadKind) (p : Position) (m : Elab A) (w : Work) → ((u : Work) → Grows w u → Keeps P m u) → Keeps P (require b k p >>= λ _. m) w
 keeps-tested P b k p m w h = keeps-then Anything P (require b k p) (λ _. m) w (keeps-require b k p w) (λ _ u g d. h u g)
 
-keeps-fresh : (w : Work) → Keeps (λ v u. v < u.given) fresh w
-keeps-fresh w sound w' v e =
-    let pair : ◌≡◌ {A = ℕ × Work} (w.given, next) (v, w') = cc in
+-- atoms stay sorted while more variables are given out
+sorted-node : (v w : Work) (n : Node) → Grows v w → IsSorted v.given n → IsSorted w.given n
+sorted-node v w node.True g h = tt
+sorted-node v w node.False g h = tt
+sorted-node v w (node.Atom k ts c) g (inl h) = inl (integers-more v.given w.given ts g.sorts h)
+sorted-node v w (node.Atom k ts c) g (inr h) = inr (h.0, has-more v.given w.given h.0 sort.Bool g.sorts h.1, h.2)
+sorted-node v w (node.Not a) g h = tt
+sorted-node v w (node.And a b) g h = tt
+sorted-node v w (node.Or a b) g h = tt
+sorted-node v w (node.Iff a b) g h = tt
+sorted-node v w (node.Xor a b) g h = tt
+sorted-node v w (node.Exists u a) g h = tt
+
+keeps-fresh : (t : VariableSort) (w : Work) → Keeps (λ v u. HasSort u.given v t) (fresh t) w
+keeps-fresh t w sound w' v e =
+    let pair : ◌≡◌ {A = ℕ × Work} (length w.given, next) (v, w') = cc in
     let here : next ≡ w' = ap (λ (q : ℕ × Work). q.1) pair in
-    let what : w.given ≡ v = ap (λ (q : ℕ × Work). q.0) pair in (
-      subst IsSoundWork here (record { formula = sound.formula; below = record { free = λ i u lt c. let less : u < w.given = sound.below.free i u lt c in omega arith; bound = λ i u a at. let less : u < w.given = sound.below.bound i u a at in omega arith } }),
-      subst (Grows w) here (record { nodes = ([], sym (append-nil w.formula)); count = omega arith; given = omega arith }),
-      subst (λ (u : Work). v < u.given) here (omega (arith, what)),
+    let what : length w.given ≡ v = ap (λ (q : ℕ × Work). q.0) pair in (
+      subst IsSoundWork here (record {
+        formula = sound.formula;
+        below = record { free = λ i u lt c. let less : u < length w.given = sound.below.free i u lt c in omega (arith, less, longer); bound = λ i u a at. let less : u < length w.given = sound.below.bound i u a at in omega (arith, less, longer) };
+        sorted = λ i. sorted-node w next (node_at w.formula i) grows (sound.sorted i);
+      }),
+      subst (Grows w) here grows,
+      subst (λ (u : Work). HasSort u.given v t) here (subst (λ k. HasSort next.given k t) what (has-last w.given t)),
     )
   where
     next : Work
-    next = record { formula = w.formula; given = w.given + 1 }
+    next = record { formula = w.formula; given = w.given ++ t ∷ [] }
+
+    longer : length (w.given ++ t ∷ []) ≡ length w.given + 1
+    longer = length-append w.given (t ∷ [])
+
+    grows : Grows w next
+    grows = record { nodes = ([], sym (append-nil w.formula)); count = omega arith; sorts = (t ∷ [], refl); given = omega (arith, longer) }
 
 keeps-each : {A B : Type 0} (f : A → Elab B) → ((x : A) (u : Work) → Keeps Anything (f x) u) → (xs : List A) (w : Work) → Keeps Anything (each f xs) w
 keeps-each f h [] w = keeps-give Anything [] w tt
@@ -105,14 +136,19 @@ IsKept k w = IsKindIn w k
 keeps-new-name : (s : State) (e : SExpr) (w : Work) → Keeps Anything (Commands.new_name s e) w
 keeps-new-name s e w = keeps-tested Anything (not (is_reserved (name_of (symbol_of e)) || is_live s.symbols (name_of (symbol_of e)))) Redeclared (place_of e) (give (name_of (symbol_of e))) w (λ u g. keeps-give Anything (name_of (symbol_of e)) u tt)
 
-keeps-int-sort : (e : SExpr) (w : Work) → Keeps Anything (int_sort e) w
-keeps-int-sort e w = keeps-require (bytes_eq (name_of (symbol_of e)) (codes "Int")) Unsupported (place_of e) w
+keeps-named-sort : (e : SExpr) (w : Work) → Keeps Anything (named_sort e) w
+keeps-named-sort e w = by-name (bytes_eq (name_of (symbol_of e)) (codes "Int")) (bytes_eq (name_of (symbol_of e)) (codes "Bool"))
+  where
+    by-name : (x y : Bool) → Keeps Anything (if x then give sort.Int else if y then give sort.Bool else refuse Unsupported (place_of e)) w
+    by-name true y = keeps-give Anything sort.Int w tt
+    by-name false true = keeps-give Anything sort.Bool w tt
+    by-name false false = keeps-refuse Anything Unsupported (place_of e) w
 
-keeps-declared : (s : State) (name sort : SExpr) (w : Work) → Keeps IsKept (Commands.declared s name sort) w
-keeps-declared s name sort w =
-    keeps-then Anything IsKept (Commands.new_name s name) (λ x. int_sort sort >>= λ _. fresh >>= λ v. give (kind.Declare x v)) w (keeps-new-name s name w)
-    (λ x u g k. keeps-then Anything IsKept (int_sort sort) (λ _. fresh >>= λ v. give (kind.Declare x v)) u (keeps-int-sort sort u)
-    (λ _ v g' d. keeps-then (λ i y. i < y.given) IsKept fresh (λ i. give (kind.Declare x i)) v (keeps-fresh v) (λ i y g'' lt. keeps-give IsKept (kind.Declare x i) y tt)))
+keeps-declared : (s : State) (name written : SExpr) (w : Work) → Keeps IsKept (Commands.declared s name written) w
+keeps-declared s name written w =
+    keeps-then Anything IsKept (Commands.new_name s name) (λ x. named_sort written >>= λ t. fresh t >>= λ v. give (kind.Declare x v t)) w (keeps-new-name s name w)
+    (λ x u g k. keeps-then Anything IsKept (named_sort written) (λ t. fresh t >>= λ v. give (kind.Declare x v t)) u (keeps-named-sort written u)
+    (λ t v g' d. keeps-then (λ i y. HasSort y.given i t) IsKept (fresh t) (λ i. give (kind.Declare x i t)) v (keeps-fresh t v) (λ i y g'' has. keeps-give IsKept (kind.Declare x i t) y tt)))
 
 keeps-numeral : (p : Position) (digits : List ℕ) (w : Work) → Keeps Anything (numeral p digits) w
 keeps-numeral p digits w = keeps-tested Anything (nat_lt (numeral_value digits) (2 ^ 63)) Coefficient p (give (numeral_value digits)) w (λ u g. keeps-give Anything (numeral_value digits) u tt)
@@ -139,13 +175,13 @@ keeps-integer e w = by-items (items_of e)
 
 keeps-constant : (s : State) (e : SExpr) (o : Option Name) (w : Work) → Keeps Anything (Commands.constant_of s e o) w
 keeps-constant s e None w = keeps-refuse Anything Unsupported (place_of e) w
-keeps-constant s e (Some name) w = by-name (Commands.is_truth_name name) (find_symbol s.symbols name)
+keeps-constant s e (Some name) w = by-name (is_truth_name name) (find_symbol s.symbols name)
   where
     by-name : (b : Bool) (u : Option Use) → Keeps Anything (if b then refuse Unsupported (place_of e) else Commands.constant_by (place_of e) name u) w
     by-name true u = keeps-refuse Anything Unsupported (place_of e) w
     by-name false None = keeps-refuse Anything Unknown (place_of e) w
-    by-name false (Some (Constant_of v)) = keeps-give Anything (record { name = name; variable = v }) w tt
-    by-name false (Some (Defined ps m)) = keeps-refuse Anything Unsupported (place_of e) w
+    by-name false (Some (Constant_of v t)) = keeps-give Anything (record { name = name; variable = v; sort = t }) w tt
+    by-name false (Some (Defined ps ss m)) = keeps-refuse Anything Unsupported (place_of e) w
 
 keeps-nodes-now : {A : Type 0} (P : A → Work → Type 0) (f : List _ → Elab A) (w : Work) → Keeps P (f w.formula) w → Keeps P (nodes_now >>= f) w
 keeps-nodes-now P f w h = h
@@ -155,46 +191,65 @@ keeps-predicate s e w = by-use (find_symbol s.symbols (name_of (symbol_of e)))
   where
     by-use : (o : Option Use) → Keeps Anything (Commands.predicate_by (place_of e) o) w
     by-use None = keeps-refuse Anything Unknown (place_of e) w
-    by-use (Some (Constant_of v)) = keeps-refuse Anything Sort (place_of e) w
-    by-use (Some (Defined ps (Int f))) = keeps-refuse Anything Sort (place_of e) w
-    by-use (Some (Defined ps (Truth body))) =
-        keeps-tested Anything (list_all (λ v. contains v ps) (variables_of w.formula body)) Unsupported (place_of e) (require (nat_le (length ps) MAX_TRACKS) Tracks (place_of e) >>= λ _. give (record { parameters = ps; body = body })) w
-        (λ u g. keeps-tested Anything (nat_le (length ps) MAX_TRACKS) Tracks (place_of e) (give (record { parameters = ps; body = body })) u (λ v g'. keeps-give Anything (record { parameters = ps; body = body }) v tt))
+    by-use (Some (Constant_of v t)) = keeps-refuse Anything Sort (place_of e) w
+    by-use (Some (Defined ps ss (Int f))) = keeps-refuse Anything Sort (place_of e) w
+    by-use (Some (Defined ps ss (Truth body))) =
+        keeps-tested Anything (list_all (λ v. contains v ps) (variables_of w.formula body)) Unsupported (place_of e) (require (nat_le (length ps) MAX_TRACKS) Tracks (place_of e) >>= λ _. give (record { parameters = ps; sorts = ss; body = body })) w
+        (λ u g. keeps-tested Anything (nat_le (length ps) MAX_TRACKS) Tracks (place_of e) (give (record { parameters = ps; sorts = ss; body = body })) u (λ v g'. keeps-give Anything (record { parameters = ps; sorts = ss; body = body }) v tt))
 
 keeps-two : (s : State) (to : Predicate → Predicate → CommandKind) → ((x y : Predicate) (w : Work) → IsKept (to x y) w) → (a b : SExpr) (w : Work) → Keeps IsKept (Commands.two_predicates s to a b) w
 keeps-two s to plain a b w =
-    keeps-then Anything IsKept (Commands.predicate s a) (λ x. Commands.predicate s b >>= λ y. require (length x.parameters == length y.parameters) Sort (place_of b) >>= λ _. give (to x y)) w (keeps-predicate s a w)
-    (λ x u g k. keeps-then Anything IsKept (Commands.predicate s b) (λ y. require (length x.parameters == length y.parameters) Sort (place_of b) >>= λ _. give (to x y)) u (keeps-predicate s b u)
-    (λ y v g' d. keeps-tested IsKept (length x.parameters == length y.parameters) Sort (place_of b) (give (to x y)) v (λ z g''. keeps-give IsKept (to x y) z (plain x y z))))
+    keeps-then Anything IsKept (Commands.predicate s a) (λ x. Commands.predicate s b >>= λ y. require (same_sorts x.sorts y.sorts) Sort (place_of b) >>= λ _. give (to x y)) w (keeps-predicate s a w)
+    (λ x u g k. keeps-then Anything IsKept (Commands.predicate s b) (λ y. require (same_sorts x.sorts y.sorts) Sort (place_of b) >>= λ _. give (to x y)) u (keeps-predicate s b u)
+    (λ y v g' d. keeps-tested IsKept (same_sorts x.sorts y.sorts) Sort (place_of b) (give (to x y)) v (λ z g''. keeps-give IsKept (to x y) z (plain x y z))))
 
 -- one part, and then the kind
 keeps-one : {A : Type 0} (m : Elab A) (to : A → CommandKind) → ((x : A) (w : Work) → IsKept (to x) w) → (w : Work) → Keeps Anything m w → Keeps IsKept (m >>= λ x. give (to x)) w
 keeps-one m to plain w h = keeps-then Anything IsKept m (λ x. give (to x)) w h (λ x u g d. keeps-give IsKept (to x) u (plain x u))
 
+-- a predicate of integers alone, and then the kind
+keeps-of-integers : (s : State) (to : Predicate → CommandKind) → ((x : Predicate) (w : Work) → IsKept (to x) w) → (a : SExpr) (w : Work) → Keeps IsKept (Commands.predicate s a >>= λ x. Commands.only_integers a x >>= λ _. give (to x)) w
+keeps-of-integers s to plain a w =
+    keeps-then Anything IsKept (Commands.predicate s a) (λ x. Commands.only_integers a x >>= λ _. give (to x)) w (keeps-predicate s a w)
+    (λ x u g k. keeps-tested IsKept (list_all (same_sort sort.Int) x.sorts) Unsupported (place_of a) (give (to x)) u (λ v g'. keeps-give IsKept (to x) v (plain x v)))
+
+keeps-component : (t : VariableSort) (e : SExpr) (w : Work) → Keeps Anything (Commands.component t e) w
+keeps-component sort.Int e w = keeps-tested Anything (not (is_truth_name (name_of (symbol_of e)))) Sort (place_of e) (Commands.integer e) w (λ u g. keeps-integer e u)
+keeps-component sort.Bool e w =
+    keeps-tested Anything (is_truth_name (name_of (symbol_of e))) Sort (place_of e) (give (Commands.truth_component (bytes_eq (name_of (symbol_of e)) (codes "true")))) w
+    (λ u g. keeps-give Anything (Commands.truth_component (bytes_eq (name_of (symbol_of e)) (codes "true"))) u tt)
+
+keeps-components : (ts : List VariableSort) (es : List SExpr) (w : Work) → Keeps Anything (Commands.components ts es) w
+keeps-components [] es w = keeps-give Anything [] w tt
+keeps-components (t ∷ ts) [] w = keeps-give Anything [] w tt
+keeps-components (t ∷ ts) (e ∷ es) w =
+    keeps-then Anything Anything (Commands.component t e) (λ z. Commands.components ts es >>= λ zs. give (z ∷ zs)) w (keeps-component t e w)
+    (λ z u g k. keeps-then Anything Anything (Commands.components ts es) (λ zs. give (z ∷ zs)) u (keeps-components ts es u) (λ zs v g' d. keeps-give Anything (z ∷ zs) v tt))
+
 -- ---- definitions
 
-abbrev AreGiven : List (Name × ℕ) → Work → Type 0
-AreGiven xs w = AllByRecursion (λ (x : Name × ℕ). x.1 < w.given) xs
+abbrev AreGiven : List (Name × ℕ × VariableSort) → Work → Type 0
+AreGiven xs w = AllByRecursion (λ (x : Name × ℕ × VariableSort). HasSort w.given x.1 x.2) xs
 
-given-last : (xs : List (Name × ℕ)) (v w : Work) → Grows v w → AreGiven xs v → AreGiven xs w
+given-last : (xs : List (Name × ℕ × VariableSort)) (v w : Work) → Grows v w → AreGiven xs v → AreGiven xs w
 given-last [] v w g h = tt
-given-last (x ∷ xs) v w g h = (omega (arith, h.0, g.given), given-last xs v w g h.1)
+given-last (x ∷ xs) v w g h = (has-more v.given w.given x.1 x.2 g.sorts h.0, given-last xs v w g h.1)
 
-keeps-variable : (taken : List Name) (e : SExpr) (w : Work) → Keeps (λ (x : Name × ℕ) u. x.1 < u.given) (Terms.variable taken e) w
+keeps-variable : (taken : List Name) (e : SExpr) (w : Work) → Keeps (λ (x : Name × ℕ × VariableSort) u. HasSort u.given x.1 x.2) (Terms.variable taken e) w
 keeps-variable taken e w = by-items (items_of e)
   where
-    P : Name × ℕ → Work → Type 0
-    P x u = x.1 < u.given
+    P : Name × ℕ × VariableSort → Work → Type 0
+    P x u = HasSort u.given x.1 x.2
 
-    one : SExpr → SExpr → Elab (Name × ℕ)
-    one s sort = Terms.bindable taken s >>= λ name. int_sort sort >>= λ _. fresh >>= λ v. give (name, v)
+    one : SExpr → SExpr → Elab (Name × ℕ × VariableSort)
+    one s z = Terms.bindable taken s >>= λ name. named_sort z >>= λ t. fresh t >>= λ v. give (name, v, t)
 
-    pair : (s sort : SExpr) → Keeps P (one s sort) w
-    pair s sort =
-        keeps-then Anything P (Terms.bindable taken s) (λ name. int_sort sort >>= λ _. fresh >>= λ v. give (name, v)) w
+    pair : (s z : SExpr) → Keeps P (one s z) w
+    pair s z =
+        keeps-then Anything P (Terms.bindable taken s) (λ name. named_sort z >>= λ t. fresh t >>= λ v. give (name, v, t)) w
         (keeps-tested Anything (not (is_reserved (name_of (symbol_of s)) || is_among (name_of (symbol_of s)) taken)) Redeclared (place_of s) (give (name_of (symbol_of s))) w (λ u g. keeps-give Anything (name_of (symbol_of s)) u tt))
-        (λ name u g k. keeps-then Anything P (int_sort sort) (λ _. fresh >>= λ v. give (name, v)) u (keeps-int-sort sort u)
-        (λ _ v g' d. keeps-then (λ i y. i < y.given) P fresh (λ i. give (name, i)) v (keeps-fresh v) (λ i y g'' lt. keeps-give P (name, i) y lt)))
+        (λ name u g k. keeps-then Anything P (named_sort z) (λ t. fresh t >>= λ v. give (name, v, t)) u (keeps-named-sort z u)
+        (λ t v g' d. keeps-then (λ i y. HasSort y.given i t) P (fresh t) (λ i. give (name, i, t)) v (keeps-fresh t v) (λ i y g'' has. keeps-give P (name, i, t) y has)))
 
     by-items : (items : Option (List SExpr)) → Keeps P (Terms.with_pair items (place_of e) one) w
     by-items None = keeps-refuse P Syntax (place_of e) w
@@ -203,61 +258,54 @@ keeps-variable taken e w = by-items (items_of e)
     by-items (Some (a ∷ b ∷ [])) = pair a b
     by-items (Some (a ∷ b ∷ c ∷ more)) = keeps-refuse P Syntax (place_of e) w
 
-keeps-parameters : (done : List (Name × ℕ)) (es : List SExpr) (w : Work) → AreGiven done w → Keeps AreGiven (Commands.distinct_variables done es) w
+keeps-parameters : (done : List (Name × ℕ × VariableSort)) (es : List SExpr) (w : Work) → AreGiven done w → Keeps AreGiven (Commands.distinct_variables done es) w
 keeps-parameters done [] w h = keeps-give AreGiven done w h
 keeps-parameters done (e ∷ es) w h =
-    keeps-then (λ (x : Name × ℕ) u. x.1 < u.given) AreGiven (Terms.variable (map (λ x. x.0) done) e) (λ x. Commands.distinct_variables (x ∷ done) es) w (keeps-variable (map (λ x. x.0) done) e w)
+    keeps-then (λ (x : Name × ℕ × VariableSort) u. HasSort u.given x.1 x.2) AreGiven (Terms.variable (map (λ x. x.0) done) e) (λ x. Commands.distinct_variables (x ∷ done) es) w (keeps-variable (map (λ x. x.0) done) e w)
     (λ x u g k. keeps-parameters (x ∷ done) es u (k, given-last done w u g h))
 
-bound-in : (xs : List (Name × ℕ)) (w : Work) → AreGiven xs w → AllByRecursion (λ (b : Name × Meaning). IsMeaningIn w b.1) (map as_bound xs)
+bound-in : (xs : List (Name × ℕ × VariableSort)) (w : Work) → AreGiven xs w → AllByRecursion (λ (b : Name × Bound). IsBoundIn w b.1) (map as_bound xs)
 bound-in [] w h = tt
-bound-in (x ∷ xs) w h = ((record { terms = ((tt, tt), (refl, tt)); few = refl; small = refl }, (h.0, tt)), bound-in xs w h.1)
-
-keeps-result-sort : (sort : SExpr) (w : Work) → Keeps Anything (Commands.result_sort sort) w
-keeps-result-sort sort w = by-name (bytes_eq (name_of (symbol_of sort)) (codes "Int")) (bytes_eq (name_of (symbol_of sort)) (codes "Bool"))
-  where
-    by-name : (x y : Bool) → Keeps Anything (if x then give true else if y then give false else refuse Unsupported (place_of sort)) w
-    by-name true y = keeps-give Anything true w tt
-    by-name false true = keeps-give Anything false w tt
-    by-name false false = keeps-refuse Anything Unsupported (place_of sort) w
+bound-in (x ∷ xs) w h = (h.0, bound-in xs w h.1)
 
 abbrev IsIn : Meaning → Work → Type 0
 IsIn m w = IsMeaningIn w m
 
-keeps-of-sort : (is_int : Bool) (p : Position) (m : Meaning) (w : Work) → IsIn m w → Keeps IsIn (Commands.of_sort is_int p m) w
-keeps-of-sort true p (Int f) w h = keeps-give IsIn (Int f) w h
-keeps-of-sort true p (Truth i) w h = keeps-refuse IsIn Sort p w
-keeps-of-sort false p (Truth i) w h = keeps-give IsIn (Truth i) w h
-keeps-of-sort false p (Int f) w h = keeps-refuse IsIn Sort p w
+keeps-of-sort : (t : VariableSort) (p : Position) (m : Meaning) (w : Work) → IsIn m w → Keeps IsIn (of_sort t p m) w
+keeps-of-sort t p m w h = by-test (same_sort t (sort_of m))
+  where
+    by-test : (b : Bool) → Keeps IsIn (require b Sort p >>= λ _. give m) w
+    by-test true = keeps-give IsIn m w h
+    by-test false = keeps-refuse IsIn Sort p w
 
 -- names in range stay so while the work grows
 abbrev pub NamesLast : Type 0
 NamesLast = (v w : Work) (env : Env) → Grows v w → IsEnvIn v env → IsEnvIn w env
 
 module _ (terms : TermsKeep) (conjunctions : ConjunctionsKeep) (names : NamesLast) (s : State) where
-  keeps-defined : (name parameters sort body : SExpr) (w : Work) → IsEnvIn w (outermost s.symbols) → Keeps IsKept (Commands.defined s name parameters sort body) w
-  keeps-defined name parameters sort body w h =
+  keeps-defined : (name parameters written body : SExpr) (w : Work) → IsEnvIn w (outermost s.symbols) → Keeps IsKept (Commands.defined s name parameters written body) w
+  keeps-defined name parameters written body w h =
       keeps-then Anything IsKept (Commands.new_name s name) after-name w (keeps-new-name s name w)
       (λ x u g k. keeps-then AreGiven IsKept (Commands.distinct_variables [] (items_or_none (items_of parameters))) (after-parameters x) u (keeps-parameters [] (items_or_none (items_of parameters)) u tt)
-      (λ ps v g' given. keeps-then Anything IsKept (Commands.result_sort sort) (after-sort x ps) v (keeps-result-sort sort v)
-      (λ is_int y g'' d.
+      (λ ps v g' given. keeps-then Anything IsKept (named_sort written) (after-sort x ps) v (keeps-named-sort written v)
+      (λ t y g'' d.
       let here : AreGiven ps y = given-last ps v y g'' given in
       let env = names v y (outermost s.symbols) g'' (names u v (outermost s.symbols) g' (names w u (outermost s.symbols) g h)) in
-      keeps-then IsIn IsKept (term (record { bound = map as_bound ps; live = s.symbols }) body) (after-term x ps is_int) y (terms (record { bound = map as_bound ps; live = s.symbols }) body y (record { bound = bound-in ps y here; live = env.live }))
-      (λ m z g3 range. keeps-then IsIn IsKept (Commands.of_sort is_int (place_of body) m) (last x ps) z (keeps-of-sort is_int (place_of body) m z range)
-      (λ n a g4 fine. keeps-give IsKept (kind.Define (record { name = x; parameters = reverse (map (λ p. p.1) ps); meaning = n })) a fine)))))
+      keeps-then IsIn IsKept (term (record { bound = map as_bound ps; live = s.symbols }) body) (after-term x ps t) y (terms (record { bound = map as_bound ps; live = s.symbols }) body y (record { bound = bound-in ps y here; live = env.live }))
+      (λ m z g3 range. keeps-then IsIn IsKept (of_sort t (place_of body) m) (last x ps) z (keeps-of-sort t (place_of body) m z range)
+      (λ n a g4 fine. keeps-give IsKept (kind.Define (record { name = x; parameters = reverse (map (λ p. p.1) ps); sorts = reverse (map (λ p. p.2) ps); meaning = n })) a fine)))))
     where
-      last : Name → List (Name × ℕ) → Meaning → Elab CommandKind
-      last x ps n = give (kind.Define (record { name = x; parameters = reverse (map (λ p. p.1) ps); meaning = n }))
+      last : Name → List (Name × ℕ × VariableSort) → Meaning → Elab CommandKind
+      last x ps n = give (kind.Define (record { name = x; parameters = reverse (map (λ p. p.1) ps); sorts = reverse (map (λ p. p.2) ps); meaning = n }))
 
-      after-term : Name → List (Name × ℕ) → Bool → Meaning → Elab CommandKind
-      after-term x ps is_int m = Commands.of_sort is_int (place_of body) m >>= last x ps
+      after-term : Name → List (Name × ℕ × VariableSort) → VariableSort → Meaning → Elab CommandKind
+      after-term x ps t m = of_sort t (place_of body) m >>= last x ps
 
-      after-sort : Name → List (Name × ℕ) → Bool → Elab CommandKind
-      after-sort x ps is_int = term (record { bound = map as_bound ps; live = s.symbols }) body >>= after-term x ps is_int
+      after-sort : Name → List (Name × ℕ × VariableSort) → VariableSort → Elab CommandKind
+      after-sort x ps t = term (record { bound = map as_bound ps; live = s.symbols }) body >>= after-term x ps t
 
-      after-parameters : Name → List (Name × ℕ) → Elab CommandKind
-      after-parameters x ps = Commands.result_sort sort >>= after-sort x ps
+      after-parameters : Name → List (Name × ℕ × VariableSort) → Elab CommandKind
+      after-parameters x ps = named_sort written >>= after-sort x ps
 
       after-name : Name → Elab CommandKind
       after-name x = Commands.distinct_variables [] (items_or_none (items_of parameters)) >>= after-parameters x
@@ -288,18 +336,18 @@ module _ (terms : TermsKeep) (conjunctions : ConjunctionsKeep) (names : NamesLas
   keeps-understood p verb.SetOption (key ∷ value) w c h = keeps-give IsKept (kind.SetOption (Commands.success_option key value)) w tt
   keeps-understood p verb.DeclareConst [] w c h = keeps-refuse IsKept Syntax p w
   keeps-understood p verb.DeclareConst (name ∷ []) w c h = keeps-refuse IsKept Syntax p w
-  keeps-understood p verb.DeclareConst (name ∷ sort ∷ more) w c h = keeps-declared s name sort w
+  keeps-understood p verb.DeclareConst (name ∷ written ∷ more) w c h = keeps-declared s name written w
   keeps-understood p verb.DeclareFun [] w c h = keeps-refuse IsKept Syntax p w
   keeps-understood p verb.DeclareFun (name ∷ []) w c h = keeps-refuse IsKept Syntax p w
   keeps-understood p verb.DeclareFun (name ∷ sorts ∷ []) w c h = keeps-refuse IsKept Syntax p w
-  keeps-understood p verb.DeclareFun (name ∷ sorts ∷ sort ∷ more) w c h =
-      keeps-then Anything IsKept (Commands.new_name s name) (λ _. Commands.no_sorts sorts >>= λ _. Commands.declared s name sort) w (keeps-new-name s name w)
-      (λ x u g k. keeps-tested IsKept (length (items_or_none (items_of sorts)) == 0) Unsupported (place_of sorts) (Commands.declared s name sort) u (λ y g'. keeps-declared s name sort y))
+  keeps-understood p verb.DeclareFun (name ∷ sorts ∷ written ∷ more) w c h =
+      keeps-then Anything IsKept (Commands.new_name s name) (λ _. Commands.no_sorts sorts >>= λ _. Commands.declared s name written) w (keeps-new-name s name w)
+      (λ x u g k. keeps-tested IsKept (length (items_or_none (items_of sorts)) == 0) Unsupported (place_of sorts) (Commands.declared s name written) u (λ y g'. keeps-declared s name written y))
   keeps-understood p verb.DefineFun [] w c h = keeps-refuse IsKept Syntax p w
   keeps-understood p verb.DefineFun (name ∷ []) w c h = keeps-refuse IsKept Syntax p w
   keeps-understood p verb.DefineFun (name ∷ parameters ∷ []) w c h = keeps-refuse IsKept Syntax p w
-  keeps-understood p verb.DefineFun (name ∷ parameters ∷ sort ∷ []) w c h = keeps-refuse IsKept Syntax p w
-  keeps-understood p verb.DefineFun (name ∷ parameters ∷ sort ∷ body ∷ more) w c h = keeps-defined name parameters sort body w h
+  keeps-understood p verb.DefineFun (name ∷ parameters ∷ written ∷ []) w c h = keeps-refuse IsKept Syntax p w
+  keeps-understood p verb.DefineFun (name ∷ parameters ∷ written ∷ body ∷ more) w c h = keeps-defined name parameters written body w h
   keeps-understood p verb.Assert [] w c h = keeps-refuse IsKept Syntax p w
   keeps-understood p verb.Assert (e ∷ more) w c h = keeps-asserted p e w c h
   keeps-understood p verb.CheckSat items w c h = keeps-give IsKept kind.CheckSat w tt
@@ -321,20 +369,21 @@ module _ (terms : TermsKeep) (conjunctions : ConjunctionsKeep) (names : NamesLas
   keeps-understood p verb.SetEmpty [] w c h = keeps-refuse IsKept Syntax p w
   keeps-understood p verb.SetEmpty (a ∷ more) w c h = keeps-one (Commands.predicate s a) kind.SetEmpty (λ x u. tt) w (keeps-predicate s a w)
   keeps-understood p verb.SetFinite [] w c h = keeps-refuse IsKept Syntax p w
-  keeps-understood p verb.SetFinite (a ∷ more) w c h = keeps-one (Commands.predicate s a) kind.SetFinite (λ x u. tt) w (keeps-predicate s a w)
+  keeps-understood p verb.SetFinite (a ∷ more) w c h = keeps-of-integers s kind.SetFinite (λ x u. tt) a w
   keeps-understood p verb.SetStates [] w c h = keeps-refuse IsKept Syntax p w
-  keeps-understood p verb.SetStates (a ∷ more) w c h = keeps-one (Commands.predicate s a) kind.SetStates (λ x u. tt) w (keeps-predicate s a w)
+  keeps-understood p verb.SetStates (a ∷ more) w c h = keeps-of-integers s kind.SetStates (λ x u. tt) a w
   keeps-understood p verb.SetMember [] w c h = keeps-refuse IsKept Syntax p w
   keeps-understood p verb.SetMember (a ∷ values) w c h =
-      keeps-then Anything IsKept (Commands.predicate s a) (λ x. require (length values == length x.parameters) Sort p >>= λ _. each Commands.integer values >>= λ zs. give (kind.SetMember x zs)) w (keeps-predicate s a w)
-      (λ x u g k. keeps-tested IsKept (length values == length x.parameters) Sort p (each Commands.integer values >>= λ zs. give (kind.SetMember x zs)) u
-      (λ y g'. keeps-one (each Commands.integer values) (kind.SetMember x) (λ z u. tt) y (keeps-each Commands.integer keeps-integer values y)))
+      keeps-then Anything IsKept (Commands.predicate s a) (λ x. require (length values == length x.parameters) Sort p >>= λ _. Commands.components x.sorts values >>= λ zs. give (kind.SetMember x zs)) w (keeps-predicate s a w)
+      (λ x u g k. keeps-tested IsKept (length values == length x.parameters) Sort p (Commands.components x.sorts values >>= λ zs. give (kind.SetMember x zs)) u
+      (λ y g'. keeps-one (Commands.components x.sorts values) (kind.SetMember x) (λ z u. tt) y (keeps-components x.sorts values y)))
   keeps-understood p verb.SetList [] w c h = keeps-refuse IsKept Syntax p w
   keeps-understood p verb.SetList (a ∷ []) w c h = keeps-refuse IsKept Syntax p w
   keeps-understood p verb.SetList (a ∷ n ∷ more) w c h =
-      keeps-then Anything IsKept (Commands.predicate s a) (λ x. Commands.number n >>= λ k. require (nat_le k 1000) Unsupported (place_of n) >>= λ _. give (kind.SetList x k)) w (keeps-predicate s a w)
-      (λ x u g d. keeps-then Anything IsKept (Commands.number n) (λ k. require (nat_le k 1000) Unsupported (place_of n) >>= λ _. give (kind.SetList x k)) u (keeps-number n u)
-      (λ k v g' i. keeps-tested IsKept (nat_le k 1000) Unsupported (place_of n) (give (kind.SetList x k)) v (λ y g''. keeps-give IsKept (kind.SetList x k) y tt)))
+      keeps-then Anything IsKept (Commands.predicate s a) (λ x. Commands.only_integers a x >>= λ _. Commands.number n >>= λ k. require (nat_le k 1000) Unsupported (place_of n) >>= λ _. give (kind.SetList x k)) w (keeps-predicate s a w)
+      (λ x z g0 d0. keeps-tested IsKept (list_all (same_sort sort.Int) x.sorts) Unsupported (place_of a) (Commands.number n >>= λ k. require (nat_le k 1000) Unsupported (place_of n) >>= λ _. give (kind.SetList x k)) z
+      (λ u g. keeps-then Anything IsKept (Commands.number n) (λ k. require (nat_le k 1000) Unsupported (place_of n) >>= λ _. give (kind.SetList x k)) u (keeps-number n u)
+      (λ k v g' i. keeps-tested IsKept (nat_le k 1000) Unsupported (place_of n) (give (kind.SetList x k)) v (λ y g''. keeps-give IsKept (kind.SetList x k) y tt))))
 
   keeps-list : (p : Position) (items : List SExpr) (w : Work) → IsNodeIn (conjunction s) w → IsEnvIn w (outermost s.symbols) → Keeps IsKept (Commands.list_command s p items) w
   keeps-list p [] w c h = keeps-refuse IsKept Syntax p w

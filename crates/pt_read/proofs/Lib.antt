@@ -1,6 +1,7 @@
 pub mod Steps
 pub mod Prefixes
 pub mod Verbs
+pub mod SortLemmas
 pub mod ItemLemmas
 pub mod Scopes
 pub mod Defining

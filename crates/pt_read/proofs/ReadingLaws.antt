@@ -26,6 +26,6 @@ command-read p items (Reads_list q others rest) left s t c h e =
 
 -- a scope that stays only adds
 pub adds-nothing : (s : State) → OnlyAdds s s
-adds-nothing s = record { nodes = ([], sym (append-nil s.formula)); given = omega arith; depth = refl; symbols = refl; assertions = refl }
+adds-nothing s = record { nodes = ([], sym (append-nil s.formula)); sorts = ([], sym (append-nil s.given)); given = omega arith; depth = refl; symbols = refl; assertions = refl }
 
 pub ruleset reading = (adds-nothing)

@@ -9,6 +9,7 @@ use Rattle.pt_syntax.specs.declared.sexpr.SExpr.{SExpr}
 use Rattle.pt_syntax.specs.declared.kinds.ReadRefusal.{ReadRefusal}
 use Rattle.pt_read.specs.declared.command.Command.{Command}
 use Rattle.pt_read.specs.declared.command.CommandKind.TheVariants as kind
+use Rattle.pt_terms.specs.declared.meaning.Sort.{Sort}
 use Rattle.pt_terms.specs.Elaboration.{Work, Elab, give, follow, make}
 use Rattle.pt_read.specs.Scope.{State, Assertion, conjunction, last_conjunction}
 use Rattle.pt_terms.specs.Names.{Symbol}
@@ -17,7 +18,7 @@ use Rattle.pt_terms.specs.Theory.{truth_of}
 use Rattle.pt_grammar.specs.declared.verbs.Verb.TheVariants as verb
 use Rattle.pt_grammar.specs.declared.verbs.Verb.{Verb}
 use Rattle.pt_grammar.specs.Verbs.{Row, row_in, table}
-use Rattle.pt_read.specs.Commands.{understood, by_row, named, list_command, conjunction_with, asserted, env}
+use Rattle.pt_read.specs.Commands.{understood, by_row, named, list_command, conjunction_with, env}
 use Rattle.pt_grammar.specs.ItemForms.{items_fault}
 use Rattle.pt_terms.specs.Terms.{unless_faulty, term}
 use Rattle.pt_read.specs.Context.{SeesTheSame, IsStateIn, state_of, LastIs, Stands, commanded}
@@ -30,7 +31,7 @@ follow_same (Ok r) f g e = e r.0 r.1
 follow_same (Err e') f g e = refl
 
 -- two scopes with the same names
-module _ (f g : List (Node × Position)) (given given' depth depth' : ℕ) (symbols : List Symbol) (earlier later : List Assertion) where
+module _ (f g : List (Node × Position)) (given given' : List Sort) (depth depth' : ℕ) (symbols : List Symbol) (earlier later : List Assertion) where
   abbrev s : State
   s = record { formula = f; given = given; depth = depth; symbols = symbols; assertions = earlier }
 

@@ -16,6 +16,7 @@ use Rattle.pt_terms.specs.Names.{Symbol, Use, Constant_of, Defined, constant_in,
 use Rattle.pt_read.specs.Lasting.{IsConstantUpTo, IsUseSound, AreInOrder, IsSound}
 use Rattle.pt_read.specs.Fits.{FitsKind, IsConstant, IsMeaning, free_of}
 use Rattle.pt_read.specs.Reader.{with_work}
+use Rattle.pt_read.proofs.SortLemmas.{Longer, no-longer, has-more, have-more, integers-more}
 use Rattle.pt_read.proofs.Prefixes.{front-length}
 use Rattle.pt_read.proofs.Fitting.{any-join-left, any-join-right, any-split}
 use Rattle.pt_terms.specs.Free.{IsFront, IsWhole}
@@ -95,17 +96,17 @@ abbrev SymbolsSound : State → List Symbol → Type 0
 SymbolsSound s xs = AllByRecursion (λ (x : Symbol). (x.level ≤ s.depth) × IsUseSound s x.level x.stands_for) xs
 
 -- the same formula and at least as many numbers, and constants that last
-use-moved : (s t : State) (level : ℕ) (u : Use) → s.formula ≡ t.formula → s.given ≤ t.given → ((v : ℕ) → IsConstantUpTo level s.symbols v → IsConstantUpTo level t.symbols v) → IsUseSound s level u → IsUseSound t level u
-use-moved s t level (Constant_of v) e le keep h = omega (arith, h)
-use-moved s t level (Defined ps m) e le keep h = (
-  (h.0.0, all-weaker (λ v. v < s.given) (λ v. v < t.given) ps (λ v k. omega (arith, k)) h.0.1),
+use-moved : (s t : State) (level : ℕ) (u : Use) → s.formula ≡ t.formula → Longer s.given t.given → ((v : ℕ) → IsConstantUpTo level s.symbols v → IsConstantUpTo level t.symbols v) → IsUseSound s level u → IsUseSound t level u
+use-moved s t level (Constant_of v x) e le keep h = has-more s.given t.given v x le h
+use-moved s t level (Defined ps ss m) e le keep h = (
+  (h.0.0, have-more s.given t.given ps ss le h.0.1),
   meaning m h.1,
   subst (AllByRecursion (λ v. ContainsByRecursion v ps ⊎ IsConstantUpTo level t.symbols v)) (frees m)
       (all-weaker (λ v. ContainsByRecursion v ps ⊎ IsConstantUpTo level s.symbols v) (λ v. ContainsByRecursion v ps ⊎ IsConstantUpTo level t.symbols v) (free_of s m) (λ v k. elim k [ inl d ↦ inl d | inr d ↦ inr (keep v d) ]) h.2),
 )
   where
     meaning : (m : Meaning) → IsMeaning s m → IsMeaning t m
-    meaning (Int f) k = k
+    meaning (Int f) k = (k.0, integers-more s.given t.given f.terms le k.1)
     meaning (Truth i) k = subst (λ f. i < length f) e k
 
     frees : (m : Meaning) → free_of s m ≡ free_of t m
@@ -113,13 +114,13 @@ use-moved s t level (Defined ps m) e le keep h = (
     frees (Truth i) = ap (λ f. variables_of f i) e
 
 -- nodes and numbers that are added
-use-grown : (s : State) (w : Work) (level : ℕ) (u : Use) → IsWhole w.formula → (front : IsFront s.formula w.formula) → s.given ≤ w.given → IsUseSound s level u → IsUseSound (with_work w s) level u
-use-grown s w level (Constant_of v) whole front le h = omega (arith, h)
-use-grown s w level (Defined ps m) whole front le h =
-    ((h.0.0, all-weaker (λ v. v < s.given) (λ v. v < w.given) ps (λ v k. omega (arith, k)) h.0.1), meaning m h.1, frees m h.1 h.2)
+use-grown : (s : State) (w : Work) (level : ℕ) (u : Use) → IsWhole w.formula → (front : IsFront s.formula w.formula) → Longer s.given w.given → IsUseSound s level u → IsUseSound (with_work w s) level u
+use-grown s w level (Constant_of v x) whole front le h = has-more s.given w.given v x le h
+use-grown s w level (Defined ps ss m) whole front le h =
+    ((h.0.0, have-more s.given w.given ps ss le h.0.1), meaning m h.1, frees m h.1 h.2)
   where
     meaning : (m : Meaning) → IsMeaning s m → IsMeaning (with_work w s) m
-    meaning (Int f) k = k
+    meaning (Int f) k = (k.0, integers-more s.given w.given f.terms le k.1)
     meaning (Truth i) k = let size : length s.formula ≤ length w.formula = front-length s.formula w.formula front in omega (arith, k, size)
 
     frees : (m : Meaning) → IsMeaning s m → AllByRecursion (λ v. ContainsByRecursion v ps ⊎ IsConstantUpTo level s.symbols v) (free_of s m) → AllByRecursion (λ v. ContainsByRecursion v ps ⊎ IsConstantUpTo level s.symbols v) (free_of (with_work w s) m)
@@ -128,7 +129,7 @@ use-grown s w level (Defined ps m) whole front le h =
 
 -- ---- states
 
-pub sound-grown : (s : State) (w : Work) → IsWhole w.formula → IsFront s.formula w.formula → s.given ≤ w.given → IsSound s → IsSound (with_work w s)
+pub sound-grown : (s : State) (w : Work) → IsWhole w.formula → IsFront s.formula w.formula → Longer s.given w.given → IsSound s → IsSound (with_work w s)
 sound-grown s w whole front le h = record {
   symbols = all-weaker (λ (x : Symbol). (x.level ≤ s.depth) × IsUseSound s x.level x.stands_for) (λ (x : Symbol). (x.level ≤ s.depth) × IsUseSound (with_work w s) x.level x.stands_for) s.symbols (λ x k. (k.0, use-grown s w x.level x.stands_for whole front le k.1)) h.symbols;
   order = h.order;
@@ -141,7 +142,7 @@ levels-low s xs h = all-weaker (λ (x : Symbol). (x.level ≤ s.depth) × IsUseS
 sound-symbol : (s : State) (name : Name) (u : Use) → IsSound s → IsUseSound (with_symbol name u s) s.depth u → IsSound (with_symbol name u s)
 sound-symbol s name u h k = record {
   symbols = all-last (λ (x : Symbol). (x.level ≤ s.depth) × IsUseSound (with_symbol name u s) x.level x.stands_for) s.symbols (record { name = name; stands_for = u; level = s.depth })
-      (all-weaker (λ (x : Symbol). (x.level ≤ s.depth) × IsUseSound s x.level x.stands_for) (λ (x : Symbol). (x.level ≤ s.depth) × IsUseSound (with_symbol name u s) x.level x.stands_for) s.symbols (λ x d. (d.0, use-moved s (with_symbol name u s) x.level x.stands_for refl (omega arith) (λ v. constant-beside x.level v s.symbols (record { name = name; stands_for = u; level = s.depth })) d.1)) h.symbols)
+      (all-weaker (λ (x : Symbol). (x.level ≤ s.depth) × IsUseSound s x.level x.stands_for) (λ (x : Symbol). (x.level ≤ s.depth) × IsUseSound (with_symbol name u s) x.level x.stands_for) s.symbols (λ x d. (d.0, use-moved s (with_symbol name u s) x.level x.stands_for refl (no-longer s.given) (λ v. constant-beside x.level v s.symbols (record { name = name; stands_for = u; level = s.depth })) d.1)) h.symbols)
       (omega arith, k);
   order = h.order;
   assertions = h.assertions;
@@ -163,17 +164,17 @@ abbrev AssertionSound : State → Assertion → Type 0
 AssertionSound s a = (a.level ≤ s.depth) × (a.term < length s.formula) × (a.conjunction < length s.formula)
 
 pub sound-after : (s : State) (k : CommandKind) → FitsKind k s → IsSound s → IsSound (after k s)
-sound-after s (kind.Declare name v) fits h = sound-symbol s name (Constant_of v) h fits.given
+sound-after s (kind.Declare name v t) fits h = sound-symbol s name (Constant_of v t) h fits.sort
 sound-after s (kind.Define d) fits h =
-    sound-symbol s d.name (Defined d.parameters d.meaning) h (
+    sound-symbol s d.name (Defined d.parameters d.sorts d.meaning) h (
       (fits.parameters.0, fits.parameters.1),
       meaning d.meaning fits.meaning,
-      frees d.meaning (all-weaker (λ v. ContainsByRecursion v d.parameters ⊎ IsConstant s v) (λ v. ContainsByRecursion v d.parameters ⊎ IsConstantUpTo s.depth (s.symbols ++ record { name = d.name; stands_for = Defined d.parameters d.meaning; level = s.depth } ∷ []) v) (free_of s d.meaning)
-          (λ v k. elim k [ inl c ↦ inl c | inr c ↦ inr (constant-beside s.depth v s.symbols (record { name = d.name; stands_for = Defined d.parameters d.meaning; level = s.depth }) (constant-all s.depth v s.symbols (levels-low s s.symbols h.symbols) c)) ]) fits.free),
+      frees d.meaning (all-weaker (λ v. ContainsByRecursion v d.parameters ⊎ IsConstant s v) (λ v. ContainsByRecursion v d.parameters ⊎ IsConstantUpTo s.depth (s.symbols ++ record { name = d.name; stands_for = Defined d.parameters d.sorts d.meaning; level = s.depth } ∷ []) v) (free_of s d.meaning)
+          (λ v k. elim k [ inl c ↦ inl c | inr c ↦ inr (constant-beside s.depth v s.symbols (record { name = d.name; stands_for = Defined d.parameters d.sorts d.meaning; level = s.depth }) (constant-all s.depth v s.symbols (levels-low s s.symbols h.symbols) c)) ]) fits.free),
     )
   where
     t : State
-    t = with_symbol d.name (Defined d.parameters d.meaning) s
+    t = with_symbol d.name (Defined d.parameters d.sorts d.meaning) s
 
     meaning : (m : Meaning) → IsMeaning s m → IsMeaning t m
     meaning (Int f) k = k
@@ -183,18 +184,18 @@ sound-after s (kind.Define d) fits h =
     frees (Int f) k = k
     frees (Truth i) k = k
 sound-after s (kind.Assert term c) fits h = record {
-  symbols = all-weaker (λ (x : Symbol). (x.level ≤ s.depth) × IsUseSound s x.level x.stands_for) (λ (x : Symbol). (x.level ≤ s.depth) × IsUseSound (after (kind.Assert term c) s) x.level x.stands_for) s.symbols (λ x k. (k.0, use-moved s (after (kind.Assert term c) s) x.level x.stands_for refl (omega arith) (λ v d. d) k.1)) h.symbols;
+  symbols = all-weaker (λ (x : Symbol). (x.level ≤ s.depth) × IsUseSound s x.level x.stands_for) (λ (x : Symbol). (x.level ≤ s.depth) × IsUseSound (after (kind.Assert term c) s) x.level x.stands_for) s.symbols (λ x k. (k.0, use-moved s (after (kind.Assert term c) s) x.level x.stands_for refl (no-longer s.given) (λ v d. d) k.1)) h.symbols;
   order = ordered-last s.assertions (record { term = term; conjunction = c; level = s.depth }) h.order (all-weaker (AssertionSound s) (λ (a : Assertion). a.level ≤ s.depth) s.assertions (λ a k. k.0) h.assertions);
   assertions = all-last (AssertionSound s) s.assertions (record { term = term; conjunction = c; level = s.depth }) h.assertions (omega arith, fits.term, fits.node);
 }
 sound-after s (kind.Push n) fits h = record {
-  symbols = all-weaker (λ (x : Symbol). (x.level ≤ s.depth) × IsUseSound s x.level x.stands_for) (λ (x : Symbol). (x.level ≤ s.depth + n) × IsUseSound (after (kind.Push n) s) x.level x.stands_for) s.symbols (λ x k. (omega (arith, k.0), use-moved s (after (kind.Push n) s) x.level x.stands_for refl (omega arith) (λ v d. d) k.1)) h.symbols;
+  symbols = all-weaker (λ (x : Symbol). (x.level ≤ s.depth) × IsUseSound s x.level x.stands_for) (λ (x : Symbol). (x.level ≤ s.depth + n) × IsUseSound (after (kind.Push n) s) x.level x.stands_for) s.symbols (λ x k. (omega (arith, k.0), use-moved s (after (kind.Push n) s) x.level x.stands_for refl (no-longer s.given) (λ v d. d) k.1)) h.symbols;
   order = h.order;
   assertions = all-weaker (AssertionSound s) (AssertionSound (after (kind.Push n) s)) s.assertions (λ a k. (omega (arith, k.0), k.1, k.2)) h.assertions;
 }
 sound-after s (kind.Pop n) fits h = record {
   symbols = all-weaker (λ (x : Symbol). ((x.level ≤ s.depth) × IsUseSound s x.level x.stands_for) × (nat_le x.level (s.depth - n) ≡ true)) (λ (x : Symbol). (x.level ≤ s.depth - n) × IsUseSound (popped n s) x.level x.stands_for) (filter (λ (x : Symbol). nat_le x.level (s.depth - n)) s.symbols)
-      (λ x k. (le-of x.level (s.depth - n) k.1, use-moved s (popped n s) x.level x.stands_for refl (omega arith) (λ v. constant-popped x.level (s.depth - n) v s.symbols (le-of x.level (s.depth - n) k.1)) k.0.1))
+      (λ x k. (le-of x.level (s.depth - n) k.1, use-moved s (popped n s) x.level x.stands_for refl (no-longer s.given) (λ v. constant-popped x.level (s.depth - n) v s.symbols (le-of x.level (s.depth - n) k.1)) k.0.1))
       (all-filter (λ (x : Symbol). (x.level ≤ s.depth) × IsUseSound s x.level x.stands_for) (λ (x : Symbol). nat_le x.level (s.depth - n)) s.symbols h.symbols);
   order = ordered-filter (s.depth - n) s.assertions h.order;
   assertions = all-weaker (λ (a : Assertion). AssertionSound s a × (nat_le a.level (s.depth - n) ≡ true)) (AssertionSound (popped n s)) (filter (λ (a : Assertion). nat_le a.level (s.depth - n)) s.assertions) (λ a k. (le-of a.level (s.depth - n) k.1, k.0.1, k.0.2)) (all-filter (AssertionSound s) (λ (a : Assertion). nat_le a.level (s.depth - n)) s.assertions h.assertions);

@@ -1,12 +1,15 @@
 -- Steps of elaboration: the first of two, and the turns of a loop over steps.
-use Rattle.std.proofs.Common.{◌≡◌, inl, inr, ℕ, zero, suc, ◌+◌, ◌<◌, ◌≤◌, List, [], ◌∷◌, ◌++◌, drop, get_or, length, add-one, Option, refl, ap, sym, subst, ◌∙◌, drop-cons, append_assoc, arith}
+use Rattle.std.proofs.Common.{◌≡◌, inl, inr, ℕ, ℤ, zero, suc, ◌+◌, ◌<◌, ◌≤◌, List, [], ◌∷◌, ◌++◌, drop, get_or, length, add-one, refl, ap, sym, subst, ◌∙◌, drop-cons, append_assoc, arith}
 use Rattle.std.specs.Prelude.{Result, Ok, Err, Bool, true, false, not}
 use Rattle.std.proofs.lemmas.List.{append-nil}
 use Rattle.pt_formula.specs.declared.node.Position.{Position}
 use Rattle.pt_syntax.specs.declared.kinds.ReadKind.{ReadKind}
 use Rattle.pt_syntax.specs.declared.kinds.ReadRefusal.{ReadRefusal}
 use Rattle.pt_terms.specs.Elaboration.{Work, Elab, give, follow, ◌>>=◌, require, each}
+use Rattle.pt_syntax.specs.declared.sexpr.SExpr.{SExpr}
+use Rattle.pt_terms.specs.declared.meaning.Sort.{Sort}
 use Rattle.pt_terms.specs.Gives.{Fails}
+use Rattle.pt_read.specs.Commands.{component, components}
 
 -- what is left begins with the item that is read
 pub drop-item : {X : Type 0} (xs : List X) (k : ℕ) (x : X) → k < length xs → x ≡ get_or xs k x → drop k xs ≡ x ∷ drop (k + 1) xs
@@ -43,6 +46,26 @@ module _ {A B : Type 0} (f : A → Elab B) (xs : List A) (k : ℕ) (x : A) (foun
 
   pub each_goes : (y : B) (v : Work) → f x w ≡ Ok (y, v) → (each f (drop (k + 1) xs) >>= λ ys. give ((found ++ y ∷ []) ++ ys)) v ≡ all
   each_goes y v ok = sym (more_found found y (each f (drop (k + 1) xs) v)) ∙ turn_goes (f x) (λ y. each f (drop (k + 1) xs) >>= λ ys. give (y ∷ ys)) (λ ys. give (found ++ ys)) w all here y v ok
+
+-- the same of an item by its place
+drop-at : {X : Type 0} (xs : List X) (k : ℕ) (x : X) → k < length xs → drop k xs ≡ get_or xs k x ∷ drop (k + 1) xs
+drop-at xs k x h = rw (add-one) (drop-cons xs k x h)
+
+-- a turn of the loop that gathers the components of a vector
+module _ (ss : List Sort) (es : List SExpr) (k : ℕ) (s : Sort) (e : SExpr) (found : List ℤ) (w : Work) (all : Result (List ℤ × Work) ReadRefusal)
+    (sorted : k < length ss) (within : k < length es) (is : e ≡ get_or es k e) (told : (components (drop k ss) (drop k es) >>= λ zs. give (found ++ zs)) w ≡ all) where
+  component_here : (components (get_or ss k s ∷ drop (k + 1) ss) (e ∷ drop (k + 1) es) >>= λ zs. give (found ++ zs)) w ≡ all
+  component_here =
+      subst (λ (xs : List SExpr). (components (get_or ss k s ∷ drop (k + 1) ss) xs >>= λ zs. give (found ++ zs)) w ≡ all) (drop-item es k e within is)
+      (subst (λ (ts : List Sort). (components ts (drop k es) >>= λ zs. give (found ++ zs)) w ≡ all) (drop-at ss k s sorted) told)
+
+  pub component_fails : (r : ReadRefusal) → Fails r (component (get_or ss k s) e w) → Fails r all
+  component_fails r h = turn_fails (component (get_or ss k s) e) (λ z. components (drop (k + 1) ss) (drop (k + 1) es) >>= λ zs. give (z ∷ zs)) (λ zs. give (found ++ zs)) w all component_here r h
+
+  pub component_goes : (z : ℤ) → component (get_or ss k s) e w ≡ Ok (z, w) → (components (drop (k + 1) ss) (drop (k + 1) es) >>= λ zs. give ((found ++ z ∷ []) ++ zs)) w ≡ all
+  component_goes z ok =
+      sym (more_found found z (components (drop (k + 1) ss) (drop (k + 1) es) w))
+      ∙ turn_goes (component (get_or ss k s) e) (λ z. components (drop (k + 1) ss) (drop (k + 1) es) >>= λ zs. give (z ∷ zs)) (λ zs. give (found ++ zs)) w all component_here z w ok
 
 drop_end : {A : Type 0} (xs : List A) (k : ℕ) → length xs ≤ k → drop k xs ≡ []
 drop_end [] zero h = refl

@@ -1,5 +1,5 @@
 -- What is left of a text has one answer in each scope, and sound scopes stay sound.
-use Rattle.std.proofs.Common.{◌≡◌, inl, inr, ℕ, zero, suc, ◌<◌, true, length, arith, refl, sym, ap, subst, ◌∙◌}
+use Rattle.std.proofs.Common.{◌≡◌, inl, inr, ℕ, zero, suc, ◌<◌, true, [], length, arith, refl, sym, ap, subst, ◌∙◌}
 use Rattle.std.specs.Prelude.{Result, Ok, Err, Option, Some, None}
 use Rattle.pt_formula.specs.declared.node.Node.TheVariants as node
 use Rattle.pt_formula.specs.Formulas.{start as start_formula, node_at, variables_of, contains, IsNode, IsFormula}
@@ -7,6 +7,7 @@ use Rattle.pt_syntax.specs.declared.kinds.ReadRefusal.{ReadRefusal}
 use Rattle.pt_syntax.specs.Lists.{Script, Done, Stops, Command as Reads_list}
 use Rattle.pt_terms.specs.Elaboration.{Work}
 use Rattle.pt_terms.specs.Free.{Nodes, IsWhole, AreTermsOver}
+use Rattle.pt_terms.specs.Sorts.{IsSorted, AreSorted}
 use Rattle.pt_terms.specs.Sound.{AreBelow}
 use Rattle.pt_terms.specs.Keeps.{TermsKeep, ConjunctionsKeep}
 use Rattle.pt_read.specs.declared.command.Command.{Command}
@@ -69,12 +70,12 @@ pub read-fits : ((f : Nodes) → IsFormula f → IsWhole f) → ((f : Nodes) →
 read-fits whole over terms conjunctions names Done rest s new c h next = absurd next
 read-fits whole over terms conjunctions names (Stops e) rest s new c h next = absurd next
 read-fits whole over terms conjunctions names (Reads_list p items more) rest s new c h (w, reads, left, is) =
-    let kept = keeps-command terms conjunctions names s p items (scope-conjunction s h.sound h.formula) (scope-names s h.sound) (record { formula = h.formula; below = h.below }) c w reads in
+    let kept = keeps-command terms conjunctions names s p items (scope-conjunction s h.sound h.formula) (scope-names s h.sound) (record { formula = h.formula; below = h.below; sorted = h.sorted }) c w reads in
     let whole' : IsWhole w.formula = whole w.formula kept.0.formula in
-    let step : IsStep s w = record { whole = whole'; terms = over w.formula kept.0.formula; front = kept.1.nodes; given = kept.1.given; below = h.below; sound = h.sound } in
+    let step : IsStep s w = record { whole = whole'; terms = over w.formula kept.0.formula; front = kept.1.nodes; sorts = kept.1.sorts; given = kept.1.given; below = h.below; sound = h.sound } in
     subst (λ (t : State). IsSoundScope t × OnlyAdds s t × FitsKind c.kind t) (sym is) (
-      record { formula = kept.0.formula; below = kept.0.below; sound = sound-grown s w whole' kept.1.nodes kept.1.given h.sound },
-      record { nodes = kept.1.nodes; given = kept.1.given; depth = refl; symbols = refl; assertions = refl },
+      record { formula = kept.0.formula; below = kept.0.below; sorted = kept.0.sorted; sound = sound-grown s w whole' kept.1.nodes kept.1.sorts h.sound },
+      record { nodes = kept.1.nodes; sorts = kept.1.sorts; given = kept.1.given; depth = refl; symbols = refl; assertions = refl },
       fits-elaborated s p items c w step kept.2 reads,
     )
 
@@ -88,6 +89,7 @@ pub initial-sound : IsSoundScope initial
 initial-sound = record {
   formula = record { first = refl; few_nodes = omega arith; each = λ i lt. start-node i lt };
   below = record { free = λ i v lt e. free i v lt e; bound = λ i v a e. bound i v a e };
+  sorted = λ i. sorted i;
   sound = record { symbols = tt; order = tt; assertions = tt };
 }
   where
@@ -95,12 +97,16 @@ initial-sound = record {
     free zero v lt e = absurd cc
     free (suc i) v lt e = absurd (omega arith)
 
+    sorted : (i : ℕ) → IsSorted [] (node_at start_formula i)
+    sorted zero = tt
+    sorted (suc i) = tt
+
     bound : (i v a : ℕ) → node_at start_formula i ≡ node.Exists v a → v < 0
     bound zero v a e = absurd cc
     bound (suc i) v a e = absurd cc
 
 after-formula : (k : CommandKind) (s : State) → ((after k s).formula ≡ s.formula) × ((after k s).given ≡ s.given)
-after-formula (kind.Declare name v) s = (refl, refl)
+after-formula (kind.Declare name v t) s = (refl, refl)
 after-formula (kind.Define d) s = (refl, refl)
 after-formula (kind.Assert term c) s = (refl, refl)
 after-formula (kind.Push n) s = (refl, refl)
@@ -127,7 +133,8 @@ after-sound k s fits h =
     let same = after-formula k s in
     record {
       formula = subst IsFormula (sym same.0) h.formula;
-      below = subst (λ f. AreBelow f (after k s).given) (sym same.0) (subst (AreBelow s.formula) (sym same.1) h.below);
+      below = subst (λ f. AreBelow f (length (after k s).given)) (sym same.0) (subst (λ given. AreBelow s.formula (length given)) (sym same.1) h.below);
+      sorted = subst (λ f. AreSorted f (after k s).given) (sym same.0) (subst (AreSorted s.formula) (sym same.1) h.sorted);
       sound = sound-after s k fits h.sound;
     }
 

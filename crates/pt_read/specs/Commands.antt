@@ -7,23 +7,25 @@ use Rattle.pt_formula.specs.declared.node.Node.TheVariants as node
 use Rattle.pt_formula.specs.declared.node.Position.{Position}
 use Rattle.pt_formula.specs.declared.TheConstants.{MAX_TRACKS}
 use Rattle.pt_formula.specs.Formulas.{variables_of, contains}
-use Rattle.pt_terms.specs.declared.meaning.Meaning.{Meaning}
-use Rattle.pt_terms.specs.declared.meaning.Meaning.TheVariants.{Int, Bool as Truth}
+use Rattle.pt_terms.specs.declared.meaning.Meaning.TheVariants.{Bool as Truth}
 use Rattle.pt_terms.specs.declared.meaning.Constant.{Constant}
+use Rattle.pt_terms.specs.declared.meaning.Sort.{Sort}
+use Rattle.pt_terms.specs.declared.meaning.Sort.TheVariants as sort
+use Rattle.pt_terms.specs.Sorts.{same_sort, same_sorts}
 use Rattle.pt_read.specs.declared.command.Predicate.{Predicate}
 use Rattle.pt_read.specs.declared.command.Command.{Command}
 use Rattle.pt_read.specs.declared.command.CommandKind.{CommandKind}
 use Rattle.pt_read.specs.declared.command.CommandKind.TheVariants as kind
 use Rattle.pt_syntax.specs.declared.sexpr.SExpr.{SExpr}
-use Rattle.pt_syntax.specs.declared.kinds.ReadKind.TheVariants.{Syntax, Unknown, Sort, Unsupported, Redeclared, Tracks, Logic}
+use Rattle.pt_syntax.specs.declared.kinds.ReadKind.TheVariants.{Syntax, Unknown, Sort as WrongSort, Unsupported, Redeclared, Tracks, Logic}
 use Rattle.pt_syntax.specs.declared.kinds.ReadRefusal.{ReadRefusal}
 use Rattle.pt_terms.specs.Elaboration.{Work, Elab, give, refuse, ◌>>=◌, require, make, fresh, each}
-use Rattle.pt_grammar.specs.Words.{Name, is_reserved}
+use Rattle.pt_grammar.specs.Words.{Name, is_reserved, is_truth_name}
 use Rattle.pt_terms.specs.Names.{Use, Constant_of, Defined, find_symbol, is_live, Env}
 use Rattle.pt_read.specs.Scope.{State, conjunction}
 use Rattle.pt_grammar.specs.Exprs.{place_of, symbol_of, numeral_of, keyword_of, text_of, items_of, name_of, items_or_none}
-use Rattle.pt_terms.specs.Theory.{nodes_now, form_of, truth_of}
-use Rattle.pt_terms.specs.Terms.{unless_faulty, int_sort, as_bound, numeral, term}
+use Rattle.pt_terms.specs.Theory.{nodes_now, truth_of, of_sort}
+use Rattle.pt_terms.specs.Terms.{unless_faulty, named_sort, as_bound, numeral, term}
 use Rattle.pt_grammar.specs.ItemForms.{items_fault}
 use Rattle.pt_grammar.specs.Verbs.{Row, table, row_in}
 
@@ -55,38 +57,27 @@ abbrev pub integer : SExpr → Elab ℤ
 integer e = negated (items_of e) e
 
 abbrev pub declared : State → SExpr → SExpr → Elab CommandKind
-declared s name sort = do
+declared s name written = do
   x ← new_name s name
-  _ ← int_sort sort
-  v ← fresh
-  give (kind.Declare x v)
+  t ← named_sort written
+  v ← fresh t
+  give (kind.Declare x v t)
 
 abbrev pub no_sorts : SExpr → Elab (Unit {0})
 no_sorts e = require (length (items_or_none (items_of e)) == 0) Unsupported (place_of e)
 
--- the body's meaning, by the sort that is written
-abbrev pub result_sort : SExpr → Elab Bool
-result_sort e =
-    if bytes_eq (name_of (symbol_of e)) (codes "Int") then give true
-    else if bytes_eq (name_of (symbol_of e)) (codes "Bool") then give false
-    else refuse Unsupported (place_of e)
-
-abbrev pub of_sort : Bool → Position → Meaning → Elab Meaning
-of_sort true p m = form_of p m >>= λ f. give (Int f)
-of_sort false p m = truth_of p m >>= λ i. give (Truth i)
-
-abbrev pub distinct_variables : List (Name × ℕ) → List SExpr → Elab (List (Name × ℕ))
+abbrev pub distinct_variables : List (Name × ℕ × Sort) → List SExpr → Elab (List (Name × ℕ × Sort))
 distinct_variables done [] = give done
 distinct_variables done (e ∷ es) = Rattle.pt_terms.specs.Terms.variable (map (λ x. x.0) done) e >>= λ x. distinct_variables (x ∷ done) es
 
 abbrev pub defined : State → SExpr → SExpr → SExpr → SExpr → Elab CommandKind
-defined s name parameters sort body = do
+defined s name parameters written body = do
   x ← new_name s name
   ps ← distinct_variables [] (items_or_none (items_of parameters))
-  is_int ← result_sort sort
+  t ← named_sort written
   m ← term (record { bound = map as_bound ps; live = s.symbols }) body
-  n ← of_sort is_int (place_of body) m
-  give (kind.Define (record { name = x; parameters = reverse (map (λ p. p.1) ps); meaning = n }))
+  n ← of_sort t (place_of body) m
+  give (kind.Define (record { name = x; parameters = reverse (map (λ p. p.1) ps); sorts = reverse (map (λ p. p.2) ps); meaning = n }))
 
 abbrev pub conjunction_with : State → Position → ℕ → Elab ℕ
 conjunction_with s p t = if length s.assertions == 0 then give t else make (node.And (conjunction s) t) p
@@ -99,25 +90,21 @@ asserted s p e = do
   give (kind.Assert t c)
 
 abbrev pub constant_by : Position → Name → Option Use → Elab Constant
-constant_by p name (Some (Constant_of v)) = give (record { name = name; variable = v })
-constant_by p name (Some (Defined ps m)) = refuse Unsupported p
+constant_by p name (Some (Constant_of v t)) = give (record { name = name; variable = v; sort = t })
+constant_by p name (Some (Defined ps ss m)) = refuse Unsupported p
 constant_by p name None = refuse Unknown p
-
--- a symbol of the standard that is a term of its own
-abbrev pub is_truth_name : Name → Bool
-is_truth_name name = bytes_eq name (codes "true") || bytes_eq name (codes "false")
 
 abbrev pub constant_of : State → SExpr → Option Name → Elab Constant
 constant_of s e (Some name) = if is_truth_name name then refuse Unsupported (place_of e) else constant_by (place_of e) name (find_symbol s.symbols name)
 constant_of s e None = refuse Unsupported (place_of e)
 
 abbrev pub predicate_by : Position → Option Use → Elab Predicate
-predicate_by p (Some (Defined ps (Truth body))) = do
+predicate_by p (Some (Defined ps ss (Truth body))) = do
   f ← nodes_now
   _ ← require (list_all (λ v. contains v ps) (variables_of f body)) Unsupported p
   _ ← require (nat_le (length ps) MAX_TRACKS) Tracks p
-  give (record { parameters = ps; body = body })
-predicate_by p (Some other) = refuse Sort p
+  give (record { parameters = ps; sorts = ss; body = body })
+predicate_by p (Some other) = refuse WrongSort p
 predicate_by p None = refuse Unknown p
 
 abbrev pub predicate : State → SExpr → Elab Predicate
@@ -127,8 +114,26 @@ abbrev pub two_predicates : State → (Predicate → Predicate → CommandKind) 
 two_predicates s kind a b = do
   x ← predicate s a
   y ← predicate s b
-  _ ← require (length x.parameters == length y.parameters) Sort (place_of b)
+  _ ← require (same_sorts x.sorts y.sorts) WrongSort (place_of b)
   give (kind x y)
+
+-- what is asked of sets of integers alone
+abbrev pub only_integers : SExpr → Predicate → Elab (Unit {0})
+only_integers e x = require (list_all (same_sort sort.Int) x.sorts) Unsupported (place_of e)
+
+-- a component of a vector: true is 1 and false is 0
+abbrev pub truth_component : Bool → ℤ
+truth_component true = pos 1
+truth_component false = pos 0
+
+abbrev pub component : Sort → SExpr → Elab ℤ
+component sort.Int e = require (not (is_truth_name (name_of (symbol_of e)))) WrongSort (place_of e) >>= λ _. integer e
+component sort.Bool e = require (is_truth_name (name_of (symbol_of e))) WrongSort (place_of e) >>= λ _. give (truth_component (bytes_eq (name_of (symbol_of e)) (codes "true")))
+
+-- one for each sort, from left to right
+abbrev pub components : List Sort → List SExpr → Elab (List ℤ)
+components (t ∷ ts) (e ∷ es) = component t e >>= λ z. components ts es >>= λ zs. give (z ∷ zs)
+components _ _ = give []
 
 abbrev pub logics : List Name
 logics = codes "LIA" ∷ codes "QF_LIA" ∷ codes "ALL" ∷ []
@@ -150,9 +155,9 @@ abbrev pub understood : State → Position → Verb → List SExpr → Elab Comm
 understood s p verb.SetLogic (e ∷ _) = require (Rattle.pt_grammar.specs.Words.is_among (name_of (symbol_of e)) logics) Logic (place_of e) >>= λ _. give kind.SetLogic
 understood s p verb.SetInfo items = give kind.SetInfo
 understood s p verb.SetOption (key ∷ value) = give (kind.SetOption (success_option key value))
-understood s p verb.DeclareConst (name ∷ sort ∷ _) = declared s name sort
-understood s p verb.DeclareFun (name ∷ sorts ∷ sort ∷ _) = new_name s name >>= λ _. no_sorts sorts >>= λ _. declared s name sort
-understood s p verb.DefineFun (name ∷ parameters ∷ sort ∷ body ∷ _) = defined s name parameters sort body
+understood s p verb.DeclareConst (name ∷ written ∷ _) = declared s name written
+understood s p verb.DeclareFun (name ∷ sorts ∷ written ∷ _) = new_name s name >>= λ _. no_sorts sorts >>= λ _. declared s name written
+understood s p verb.DefineFun (name ∷ parameters ∷ written ∷ body ∷ _) = defined s name parameters written body
 understood s p verb.Assert (e ∷ _) = asserted s p e
 understood s p verb.CheckSat items = give kind.CheckSat
 understood s p verb.GetValue (list ∷ _) = each (λ e. constant_of s e (symbol_of e)) (items_or_none (items_of list)) >>= λ cs. give (kind.GetValue cs)
@@ -165,15 +170,16 @@ understood s p verb.Exit items = give kind.Exit
 understood s p verb.SetEqual (a ∷ b ∷ _) = two_predicates s kind.SetEqual a b
 understood s p verb.SetSubset (a ∷ b ∷ _) = two_predicates s kind.SetSubset a b
 understood s p verb.SetEmpty (a ∷ _) = predicate s a >>= λ x. give (kind.SetEmpty x)
-understood s p verb.SetFinite (a ∷ _) = predicate s a >>= λ x. give (kind.SetFinite x)
-understood s p verb.SetStates (a ∷ _) = predicate s a >>= λ x. give (kind.SetStates x)
+understood s p verb.SetFinite (a ∷ _) = predicate s a >>= λ x. only_integers a x >>= λ _. give (kind.SetFinite x)
+understood s p verb.SetStates (a ∷ _) = predicate s a >>= λ x. only_integers a x >>= λ _. give (kind.SetStates x)
 understood s p verb.SetMember (a ∷ values) = do
   x ← predicate s a
-  _ ← require (length values == length x.parameters) Sort p
-  zs ← each integer values
+  _ ← require (length values == length x.parameters) WrongSort p
+  zs ← components x.sorts values
   give (kind.SetMember x zs)
 understood s p verb.SetList (a ∷ n ∷ _) = do
   x ← predicate s a
+  _ ← only_integers a x
   k ← number n
   _ ← require (nat_le k 1000) Unsupported (place_of n)
   give (kind.SetList x k)

@@ -18,7 +18,7 @@ assertions_of None = []
 assertions_of (Some c) = record { term = c; conjunction = c; level = 0 } ∷ []
 
 abbrev pub state_of : List Symbol → Option ℕ → State
-state_of symbols c = record { formula = []; given = 0; depth = 0; symbols = symbols; assertions = assertions_of c }
+state_of symbols c = record { formula = []; given = []; depth = 0; symbols = symbols; assertions = assertions_of c }
 
 -- a scope's names and conjunction are in the range of the work
 pub record IsStateIn (w : Work) (s : State) : Type 0 where

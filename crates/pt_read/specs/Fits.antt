@@ -6,7 +6,6 @@ use Rattle.pt_formula.specs.declared.node.Node.{Node}
 use Rattle.pt_formula.specs.declared.node.Node.TheVariants as node
 use Rattle.pt_formula.specs.declared.node.Position.{Position}
 use Rattle.pt_formula.specs.Forms.{IsIncreasing}
-use Rattle.pt_formula.specs.Sums.{IsForm}
 use Rattle.pt_formula.specs.declared.TheConstants.{MAX_TRACKS}
 use Rattle.pt_formula.specs.Formulas.{node_at, variables_of, contains}
 use Rattle.pt_terms.specs.declared.meaning.Meaning.{Meaning}
@@ -17,6 +16,9 @@ use Rattle.pt_read.specs.declared.command.Predicate.{Predicate}
 use Rattle.pt_read.specs.declared.command.CommandKind.{CommandKind}
 use Rattle.pt_read.specs.declared.command.CommandKind.TheVariants as kind
 use Rattle.pt_read.specs.Scope.{State, Assertion, conjunction}
+use Rattle.pt_terms.specs.declared.meaning.Sort.{Sort}
+use Rattle.pt_terms.specs.Sorts.{HasSort, HaveSorts}
+use Rattle.pt_terms.specs.Sound.{IsFormOver}
 use Rattle.pt_terms.specs.Names.{Constant_of, is_live, find_symbol, constants_in}
 
 -- no node binds the variable
@@ -30,9 +32,9 @@ abbrev pub IsNode : State → ℕ → Type 0
 IsNode s i = i < length s.formula
 
 -- a name that is not live, of a variable that nothing speaks of
-pub record IsNewConstant (s : State) (name : List ℕ) (v : ℕ) : Type 0 where
+pub record IsNewConstant (s : State) (name : List ℕ) (v : ℕ) (t : Sort) : Type 0 where
   pub new : is_live s.symbols name ≡ false
-  pub given : v < s.given
+  pub sort : HasSort s.given v t
   pub unused : IsConstant s v → ⊥
   pub unasserted : AllByRecursion (λ (a : Assertion). contains v (variables_of s.formula a.term) ≡ false) s.assertions
   pub unbound : IsUnbound s.formula v
@@ -42,12 +44,12 @@ free_of s (Int f) = Rattle.std.specs.Prelude.map (λ t. t.0) f.terms
 free_of s (Truth i) = variables_of s.formula i
 
 abbrev pub IsMeaning : State → Meaning → Type 0
-IsMeaning s (Int f) = IsForm f
+IsMeaning s (Int f) = IsFormOver s.given f
 IsMeaning s (Truth i) = IsNode s i
 
 pub record IsNewDefinition (s : State) (d : Definition) : Type 0 where
   pub new : is_live s.symbols d.name ≡ false
-  pub parameters : IsIncreasing d.parameters × AllByRecursion (λ v. v < s.given) d.parameters
+  pub parameters : IsIncreasing d.parameters × HaveSorts s.given d.parameters d.sorts
   pub unbound : AllByRecursion (IsUnbound s.formula) d.parameters
   pub meaning : IsMeaning s d.meaning
   pub free : AllByRecursion (λ v. ContainsByRecursion v d.parameters ⊎ IsConstant s v) (free_of s d.meaning)
@@ -63,18 +65,18 @@ pub record IsNewAssertion (s : State) (t c : ℕ) : Type 0 where
   pub conjunction : ConjunctionOf s s.assertions t c
 
 pub record IsPredicate (s : State) (p : Predicate) : Type 0 where
-  pub parameters : IsIncreasing p.parameters × AllByRecursion (λ v. v < s.given) p.parameters
+  pub parameters : IsIncreasing p.parameters × HaveSorts s.given p.parameters p.sorts
   pub few : length p.parameters ≤ MAX_TRACKS
   pub body : IsNode s p.body
   pub free : AllByRecursion (λ v. ContainsByRecursion v p.parameters) (variables_of s.formula p.body)
 
 abbrev pub FitsKind : CommandKind → State → Type 0
-FitsKind (kind.Declare name v) s = IsNewConstant s name v
+FitsKind (kind.Declare name v t) s = IsNewConstant s name v t
 FitsKind (kind.Define d) s = IsNewDefinition s d
 FitsKind (kind.Assert t c) s = IsNewAssertion s t c
-FitsKind (kind.GetValue cs) s = (0 < length cs) × AllByRecursion (λ (c : Constant). find_symbol s.symbols c.name ≡ Some (Constant_of c.variable)) cs
-FitsKind (kind.SetEqual p q) s = IsPredicate s p × IsPredicate s q × (length p.parameters ≡ length q.parameters)
-FitsKind (kind.SetSubset p q) s = IsPredicate s p × IsPredicate s q × (length p.parameters ≡ length q.parameters)
+FitsKind (kind.GetValue cs) s = (0 < length cs) × AllByRecursion (λ (c : Constant). find_symbol s.symbols c.name ≡ Some (Constant_of c.variable c.sort)) cs
+FitsKind (kind.SetEqual p q) s = IsPredicate s p × IsPredicate s q × (p.sorts ≡ q.sorts)
+FitsKind (kind.SetSubset p q) s = IsPredicate s p × IsPredicate s q × (p.sorts ≡ q.sorts)
 FitsKind (kind.SetEmpty p) s = IsPredicate s p
 FitsKind (kind.SetFinite p) s = IsPredicate s p
 FitsKind (kind.SetStates p) s = IsPredicate s p

@@ -6,16 +6,18 @@ use Rattle.pt_formula.specs.Forms.{IsIncreasing}
 use Rattle.pt_terms.specs.declared.meaning.Constant.{Constant}
 use Rattle.pt_read.specs.Scope.{State, Assertion}
 use Rattle.pt_terms.specs.Names.{Symbol, Use, Constant_of, Defined, constants_in}
+use Rattle.pt_terms.specs.Sorts.{HasSort, HaveSorts}
 use Rattle.pt_read.specs.Fits.{IsMeaning, free_of}
 
 -- the variable of a constant of this level or a lower one
 abbrev pub IsConstantUpTo : ℕ → List Symbol → ℕ → Type 0
 IsConstantUpTo level symbols v = AnyByRecursion (λ (c : Constant). c.variable ≡ v) (constants_in (filter (λ (s : Symbol). nat_le s.level level) symbols))
 
--- a constant's variable was given; the parameters of a definition increase, and what else is free in it are constants that last as long
+-- a constant's variable has its sort; the parameters of a definition increase and have their sorts, and what else is free in it are
+-- constants that last as long
 abbrev pub IsUseSound : State → ℕ → Use → Type 0
-IsUseSound s level (Constant_of v) = v < s.given
-IsUseSound s level (Defined ps m) = (IsIncreasing ps × AllByRecursion (λ v. v < s.given) ps) × IsMeaning s m × AllByRecursion (λ v. ContainsByRecursion v ps ⊎ IsConstantUpTo level s.symbols v) (free_of s m)
+IsUseSound s level (Constant_of v t) = HasSort s.given v t
+IsUseSound s level (Defined ps ss m) = (IsIncreasing ps × HaveSorts s.given ps ss) × IsMeaning s m × AllByRecursion (λ v. ContainsByRecursion v ps ⊎ IsConstantUpTo level s.symbols v) (free_of s m)
 
 -- later assertions are of the same level or of higher ones
 abbrev pub AreInOrder : List Assertion → Type 0

@@ -1,5 +1,5 @@
 -- What a reader has left, and what its next answer may be.
-use Rattle.std.specs.Prelude.{⊤, ◌≤◌, ◌≡◌, ◌⊎◌, ◌++◌, List, Option, Some, None, Result, Ok, Err}
+use Rattle.std.specs.Prelude.{⊤, ◌≤◌, ◌≡◌, ◌⊎◌, ◌++◌, List, length, Option, Some, None, Result, Ok, Err}
 use Rattle.pt_formula.specs.declared.node.Node.{Node}
 use Rattle.pt_formula.specs.declared.node.Position.{Position}
 use Rattle.pt_read.specs.declared.command.Command.{Command}
@@ -7,6 +7,7 @@ use Rattle.pt_syntax.specs.declared.kinds.ReadRefusal.{ReadRefusal}
 use Rattle.pt_syntax.specs.Lists.{Script, Done, Stops, Command as Reads_list}
 use Rattle.pt_syntax.specs.Rest.{lists_left, no_memory}
 use Rattle.pt_read.specs.Rest.{Rest}
+use Rattle.pt_terms.specs.declared.meaning.Sort.{Sort}
 use Rattle.pt_terms.specs.Elaboration.{Work}
 use Rattle.pt_read.specs.Scope.{State}
 use Rattle.pt_read.specs.Fits.{FitsKind}
@@ -29,10 +30,11 @@ IsRefusedWith Done s e = ⊥
 IsRefusedWith (Stops f) s e = e ≡ f
 IsRefusedWith (Reads_list p items rest) s e = elaborate s p items ≡ Err e
 
--- nodes and variable numbers may have been added, and nothing else
+-- nodes and variables may have been added, and nothing else
 pub record OnlyAdds (old new : State) : Type 0 where
   pub nodes : (more : List (Node × Position)) × (new.formula ≡ old.formula ++ more)
-  pub given : old.given ≤ new.given
+  pub sorts : (more : List Sort) × (new.given ≡ old.given ++ more)
+  pub given : length old.given ≤ length new.given
   pub depth : new.depth ≡ old.depth
   pub symbols : new.symbols ≡ old.symbols
   pub assertions : new.assertions ≡ old.assertions

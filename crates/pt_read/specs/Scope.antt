@@ -5,6 +5,7 @@ use Rattle.pt_formula.specs.declared.node.Position.{Position}
 use Rattle.pt_formula.specs.Formulas.{start}
 use Rattle.pt_read.specs.declared.command.CommandKind.{CommandKind}
 use Rattle.pt_read.specs.declared.command.CommandKind.TheVariants as kind
+use Rattle.pt_terms.specs.declared.meaning.Sort.{Sort}
 use Rattle.pt_grammar.specs.Words.{Name}
 use Rattle.pt_terms.specs.Names.{Use, Constant_of, Defined, Symbol}
 
@@ -16,8 +17,8 @@ pub record Assertion : Type 0 where
 
 pub record State : Type 0 where
   pub formula : List (Node × Position)
-  -- how many variable numbers have been given
-  pub given : ℕ
+  -- the sorts of the variables that have been given out, by their numbers
+  pub given : List Sort
   -- how many levels have been pushed
   pub depth : ℕ
   -- the newest last
@@ -25,7 +26,7 @@ pub record State : Type 0 where
   pub assertions : List Assertion
 
 abbrev pub initial : State
-initial = record { formula = start; given = 0; depth = 0; symbols = []; assertions = [] }
+initial = record { formula = start; given = []; depth = 0; symbols = []; assertions = [] }
 
 -- the conjunction of the live assertions, node 0 without any
 abbrev pub last_conjunction : ℕ → List Assertion → ℕ
@@ -51,8 +52,8 @@ popped n s = record {
 
 -- the names, levels and assertions after a command
 abbrev pub after : CommandKind → State → State
-after (kind.Declare name v) s = with_symbol name (Constant_of v) s
-after (kind.Define d) s = with_symbol d.name (Defined d.parameters d.meaning) s
+after (kind.Declare name v t) s = with_symbol name (Constant_of v t) s
+after (kind.Define d) s = with_symbol d.name (Defined d.parameters d.sorts d.meaning) s
 after (kind.Assert term c) s = record { formula = s.formula; given = s.given; depth = s.depth; symbols = s.symbols; assertions = s.assertions ++ record { term = term; conjunction = c; level = s.depth } ∷ [] }
 after (kind.Push n) s = record { formula = s.formula; given = s.given; depth = s.depth + n; symbols = s.symbols; assertions = s.assertions }
 after (kind.Pop n) s = popped n s

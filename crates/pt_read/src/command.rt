@@ -2,19 +2,22 @@ use crate::constants::Constants;
 use crate::integers::Integers;
 use pt_formula::Position;
 use pt_terms::bytes::Bytes;
-use pt_terms::meaning::Meaning;
+use pt_terms::meaning::{Meaning, Sort};
 use pt_terms::parameters::Parameters;
+use pt_terms::sorts::Sorts;
 
 #[derive(Drop)]
 pub struct Definition {
     pub name: Bytes,
     pub parameters: Parameters,
+    pub sorts: Sorts,
     pub meaning: Meaning,
 }
 
 #[derive(Drop)]
 pub struct Predicate {
     pub parameters: Parameters,
+    pub sorts: Sorts,
     pub body: u32,
 }
 
@@ -22,12 +25,25 @@ pub struct Predicate {
 pub enum CommandKind {
     SetLogic,
     SetInfo,
-    SetOption { success: Option<bool> },
-    Declare { name: Bytes, variable: u32 },
-    Define { definition: Definition },
-    Assert { term: u32, conjunction: u32 },
+    SetOption {
+        success: Option<bool>,
+    },
+    Declare {
+        name: Bytes,
+        variable: u32,
+        sort: Sort,
+    },
+    Define {
+        definition: Definition,
+    },
+    Assert {
+        term: u32,
+        conjunction: u32,
+    },
     CheckSat,
-    GetValue { constants: Constants },
+    GetValue {
+        constants: Constants,
+    },
     GetModel,
     Push(u64),
     Pop(u64),

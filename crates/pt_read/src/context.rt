@@ -131,9 +131,13 @@ fn constant_used(
     ensures { Says (λ c. c) result (constant_by at name.now (option_map (λ u. shown_use u.now) found.entry)) }
 {
     match found {
-        Some(Use::Constant(v)) => {
+        Some(Use::Constant(v, sort)) => {
             let name = Bytes::copy_of(alloc, name)?;
-            Ok(Constant { name, variable: *v })
+            Ok(Constant {
+                name,
+                variable: *v,
+                sort: *sort,
+            })
         }
         Some(Use::Definition(..)) => Err(refused(ReadKind::Unsupported, at)),
         None => Err(refused(ReadKind::Unknown, at)),

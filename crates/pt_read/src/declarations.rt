@@ -2,49 +2,36 @@
 ghost use Rattle.pt_formula.specs.declared.node.Position.{Position as PositionValue};
 ghost use Rattle.std.specs.Prelude.{◌≤◌, ◌≡◌, ◌∷◌, IfErr, OnOk, ◌<◌, [], length, map, IfOk};
 ghost use Rattle.pt_syntax.specs.Rest.{no_memory as no_memory_refusal};
-ghost use Rattle.pt_terms.specs.Terms.{as_bound, term, variable};
+ghost use Rattle.pt_terms.specs.Terms.{term, variable};
 ghost use Rattle.std.specs.List.{AllByRecursion};
 ghost use Rattle.pt_grammar.specs.Words.{Name};
-ghost use Rattle.pt_terms.specs.declared.meaning.Meaning.{Meaning as MeaningValue};
+ghost use Rattle.pt_terms.specs.declared.meaning.Bound.{Bound as BoundValue};
 ghost use Rattle.pt_read.specs.Defining.{parameter_named, parameter, parameters_from, definition_of, defined_by};
 ghost use Rattle.pt_grammar.specs.declared.verbs.Verb.TheVariants as verb;
 ghost use Rattle.pt_read.specs.Commands.{declared, conjunction_with, env, understood};
-ghost use Rattle.pt_terms.specs.Sound.{IsMeaningIn};
+ghost use Rattle.pt_terms.specs.Sorts.{HasSort};
+ghost use Rattle.pt_terms.specs.Sound.{IsMeaningIn, IsBoundIn};
 ghost use Rattle.pt_read.specs.Context.{IsStateIn, IsKindIn, declared_function};
 ghost use Rattle.pt_terms.specs.Gives.{Gives, Grows};
 
 use crate::command::{CommandKind, Definition};
 use crate::context::Context;
-use crate::item_parts::{is_int, of_this_sort, without_sorts};
+use crate::item_parts::without_sorts;
 use pt_formula::{Op, Position};
 use pt_grammar::exprs::{items, items_in, place};
 use pt_syntax::{ReadKind, ReadRefusal, SExpr};
-use pt_terms::arithmetic::form_of_variable;
-use pt_terms::binders::int_only;
+use pt_terms::binders::{Named, named_sort};
 use pt_terms::bindings::Bindings;
 use pt_terms::bytes::Bytes;
+use pt_terms::definitions::of_sort;
 use pt_terms::elaborator::Elaborator;
 use pt_terms::environment::Environment;
 use pt_terms::laws::names_stay_in_range;
-use pt_terms::meaning::Meaning;
+use pt_terms::meaning::{Bound, Meaning, Sort};
 use pt_terms::parameters::Parameters;
 use pt_terms::refusals::refused;
+use pt_terms::sorts::Sorts;
 use std::alloc::Global;
-
-/// Binds a name to a variable's form.
-fn bind_variable(
-    alloc: Global,
-    bound: &mut Bindings,
-    name: &[u8],
-    v: u32,
-) -> Result<(), ReadRefusal>
-    ensures ok { OnOk result (bound.new ≡ as_bound (name.now, v) ∷ bound.old) }
-    ensures err { IfErr result (λ e. e ≡ no_memory_refusal) }
-{
-    let f = form_of_variable(alloc, v)?;
-    bound.push(alloc, name, Meaning::Int(f))?;
-    Ok(())
-}
 
 /// A constant that is declared, with the next variable number.
 fn declared(
@@ -59,10 +46,14 @@ fn declared(
     ensures grows { Grows work.old work.new }
 {
     let x = context.new_name(name)?;
-    int_only(sort)?;
+    let sort = named_sort(sort)?;
     let name = Bytes::copy_of(alloc, x)?;
-    let variable = work.fresh()?;
-    Ok(CommandKind::Declare { name, variable })
+    let variable = work.fresh(sort)?;
+    Ok(CommandKind::Declare {
+        name,
+        variable,
+        sort,
+    })
 }
 
 /// A constant that is declared.
@@ -190,15 +181,13 @@ fn parameter_named<'e>(
     earlier: &Bindings,
     name: &'e SExpr,
     sort: &SExpr,
-) -> Result<(&'e [u8], u32), ReadRefusal>
-    ensures gives { Gives (λ x. (x.0.now, x.1)) result work.old work.new (parameter_named (map (λ b. b.0) earlier.now) name.now sort.now) }
-    ensures range { IfOk result (λ x. x.1 < work.new.given) }
+) -> Result<Named<'e>, ReadRefusal>
+    ensures gives { Gives (λ x. (x.0.now, x.1, x.2)) result work.old work.new (parameter_named (map (λ b. b.0) earlier.now) name.now sort.now) }
+    ensures range { IfOk result (λ x. HasSort work.new.given x.1 x.2) }
     ensures grows { Grows work.old work.new }
 {
     let name = work.bindable_beside(earlier, name)?;
-    int_only(sort)?;
-    let v = work.fresh()?;
-    Ok((name, v))
+    work.sorted_variable(name, sort)
 }
 
 /// A parameter with the next variable number.
@@ -206,9 +195,9 @@ fn parameter<'e>(
     work: &mut Elaborator,
     earlier: &Bindings,
     e: &'e SExpr,
-) -> Result<(&'e [u8], u32), ReadRefusal>
-    ensures gives { Gives (λ x. (x.0.now, x.1)) result work.old work.new (variable (map (λ b. b.0) earlier.now) e.now) }
-    ensures range { IfOk result (λ x. x.1 < work.new.given) }
+) -> Result<Named<'e>, ReadRefusal>
+    ensures gives { Gives (λ x. (x.0.now, x.1, x.2)) result work.old work.new (variable (map (λ b. b.0) earlier.now) e.now) }
+    ensures range { IfOk result (λ x. HasSort work.new.given x.1 x.2) }
     ensures grows { Grows work.old work.new }
 {
     match items(e) {
@@ -217,47 +206,49 @@ fn parameter<'e>(
     }
 }
 
-/// One more parameter, which is bound to its form and whose number is kept. One hash.
+/// One more parameter, which is bound and whose number and sort are kept. One hash.
 fn bind_parameter(
     work: &mut Elaborator,
     alloc: Global,
     bound: &mut Bindings,
     numbers: &mut Vec<u32>,
+    sorts: &mut Vec<Sort>,
     e: &SExpr,
 ) -> Result<(), ReadRefusal>
-    requires { AllByRecursion (λ (b : Name × MeaningValue). IsMeaningIn work.old b.1) bound.old }
-    ensures gives { Gives (λ _. (bound.new, numbers.new.items)) result work.old work.new (parameter bound.old numbers.old.items e.now) }
-    ensures range { OnOk result (AllByRecursion (λ (b : Name × MeaningValue). IsMeaningIn work.new b.1) bound.new) }
+    requires { AllByRecursion (λ (b : Name × BoundValue). IsBoundIn work.old b.1) bound.old }
+    ensures gives { Gives (λ _. (bound.new, numbers.new.items, sorts.new.items)) result work.old work.new (parameter (bound.old, numbers.old.items, sorts.old.items) e.now) }
+    ensures range { OnOk result (AllByRecursion (λ (b : Name × BoundValue). IsBoundIn work.new b.1) bound.new) }
     ensures grows { Grows work.old work.new }
 {
     names_stay_in_range();
     let x = parameter(work, bound, e)?;
-    bind_variable(alloc, bound, x.0, x.1)?;
+    bound.push(alloc, x.0, Bound::Variable(x.1, x.2))?;
     numbers.push(x.1)?;
+    sorts.push(x.2)?;
     Ok(())
 }
 
-/// The parameters of a definition, bound to their forms, and their numbers.
+/// The parameters of a definition, bound to their variables, with the numbers and the sorts of these.
 fn bind_parameters(
     work: &mut Elaborator,
     alloc: Global,
     bound: &mut Bindings,
     numbers: &mut Vec<u32>,
+    sorts: &mut Vec<Sort>,
     es: &[SExpr],
 ) -> Result<(), ReadRefusal>
-    requires { AllByRecursion (λ (b : Name × MeaningValue). IsMeaningIn work.old b.1) bound.old }
-    ensures gives { Gives (λ _. (bound.new, numbers.new.items)) result work.old work.new (parameters_from bound.old numbers.old.items es.now) }
-    ensures range { OnOk result (AllByRecursion (λ (b : Name × MeaningValue). IsMeaningIn work.new b.1) bound.new) }
+    requires { AllByRecursion (λ (b : Name × BoundValue). IsBoundIn work.old b.1) bound.old }
+    ensures gives { Gives (λ _. (bound.new, numbers.new.items, sorts.new.items)) result work.old work.new (parameters_from (bound.old, numbers.old.items, sorts.old.items) es.now) }
+    ensures range { OnOk result (AllByRecursion (λ (b : Name × BoundValue). IsBoundIn work.new b.1) bound.new) }
     ensures grows { Grows work.old work.new }
 {
     for e in es {
-        bind_parameter(work, alloc, bound, numbers, e)?;
+        bind_parameter(work, alloc, bound, numbers, sorts, e)?;
     }
     Ok(())
 }
 
 /// A body, which sees the parameters in front of the live names.
-
 fn body_term(
     work: &mut Elaborator,
     alloc: Global,
@@ -266,7 +257,7 @@ fn body_term(
     e: &SExpr,
 ) -> Result<Meaning, ReadRefusal>
     requires context { IsStateIn work.old context.now }
-    requires bound { AllByRecursion (λ (b : Name × MeaningValue). IsMeaningIn work.old b.1) bound }
+    requires bound { AllByRecursion (λ (b : Name × BoundValue). IsBoundIn work.old b.1) bound }
     ensures gives { Gives (λ m. m) result work.old work.new (term (record { bound = bound; live = context.now.symbols }) e.now) }
     ensures range { IfOk result (λ m. IsMeaningIn work.new m) }
     ensures grows { Grows work.old work.new }
@@ -284,21 +275,23 @@ fn definition_of(
     name: &[u8],
     bound: Bindings,
     numbers: Vec<u32>,
-    is_int: bool,
+    sorts: Vec<Sort>,
+    sort: Sort,
     body: &SExpr,
 ) -> Result<CommandKind, ReadRefusal>
     requires context { IsStateIn work.old context.now }
-    requires bound { AllByRecursion (λ (b : Name × MeaningValue). IsMeaningIn work.old b.1) bound }
-    ensures gives { Gives (λ k. k) result work.old work.new (definition_of name.now context.now body.now (bound, numbers.items) is_int) }
+    requires bound { AllByRecursion (λ (b : Name × BoundValue). IsBoundIn work.old b.1) bound }
+    ensures gives { Gives (λ k. k) result work.old work.new (definition_of name.now context.now body.now (bound, numbers.items, sorts.items) sort) }
     ensures range { IfOk result (IsKindIn work.new) }
     ensures grows { Grows work.old work.new }
 {
-    let m = body_term(work, alloc, context, bound, body)?;
-    let meaning = of_this_sort(is_int, place(body), m)?;
+    let meaning = body_term(work, alloc, context, bound, body)?;
+    of_sort(sort, place(body), &meaning)?;
     let name = Bytes::copy_of(alloc, name)?;
     let definition = Definition {
         name,
         parameters: Parameters::new(numbers),
+        sorts: Sorts::new(sorts),
         meaning,
     };
     Ok(CommandKind::Define { definition })
@@ -324,9 +317,11 @@ fn defined(
     let x = context.new_name(name)?;
     let mut bound = Bindings::new(alloc);
     let mut numbers = Vec::new(alloc);
-    bind_parameters(work, alloc, &mut bound, &mut numbers, items_in(parameters))?;
-    match is_int(sort) {
-        Ok(is_int) => definition_of(work, alloc, context, x, bound, numbers, is_int, body),
+    let mut sorts = Vec::new(alloc);
+    let es = items_in(parameters);
+    bind_parameters(work, alloc, &mut bound, &mut numbers, &mut sorts, es)?;
+    match named_sort(sort) {
+        Ok(sort) => definition_of(work, alloc, context, x, bound, numbers, sorts, sort, body),
         Err(refusal) => Err(refusal),
     }
 }

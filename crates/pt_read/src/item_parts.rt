@@ -1,13 +1,11 @@
 // Parts of items, and their rules.
-ghost use Rattle.std.specs.Prelude.{◌≡◌, bytes_eq, IfOk};
+ghost use Rattle.std.specs.Prelude.{◌≡◌};
 ghost use Rattle.pt_grammar.specs.Exprs.{symbol_of, items_of, name_of, items_or_none};
-ghost use Rattle.pt_terms.specs.Terms.{int_sort};
-ghost use Rattle.pt_read.specs.Commands.{no_sorts, result_sort, of_sort, success_option, success_value};
+ghost use Rattle.pt_read.specs.Commands.{no_sorts, success_option, success_value};
 ghost use Rattle.pt_terms.specs.Gives.{Says};
 
 use pt_grammar::exprs::{is_symbol, items_in, keyword, place};
-use pt_syntax::{Position, ReadKind, ReadRefusal, SExpr};
-use pt_terms::meaning::Meaning;
+use pt_syntax::{ReadKind, ReadRefusal, SExpr};
 use pt_terms::refusals::refused;
 
 /// That a list of sorts is empty.
@@ -18,46 +16,6 @@ pub(crate) fn without_sorts(list: &SExpr) -> Result<(), ReadRefusal>
         Ok(())
     } else {
         Err(refused(ReadKind::Unsupported, place(list)))
-    }
-}
-
-/// Whether a body is to be of sort Int, or else of sort Bool.
-pub(crate) fn is_int(sort: &SExpr) -> Result<bool, ReadRefusal>
-    ensures { Says (λ b. b) result (result_sort sort.now) }
-{
-    if is_symbol(sort, b"Int") {
-        Ok(true)
-    } else if is_symbol(sort, b"Bool") {
-        Ok(false)
-    } else {
-        Err(refused(ReadKind::Unsupported, place(sort)))
-    }
-}
-
-/// A meaning, if it is of the sort.
-pub(crate) fn of_this_sort(
-    is_int: bool,
-    at: Position,
-    meaning: Meaning,
-) -> Result<Meaning, ReadRefusal>
-    ensures says { Says (λ m. m) result (of_sort is_int at meaning) }
-    ensures same { IfOk result (λ m. m ≡ meaning) }
-{
-    match meaning {
-        Meaning::Int(f) => {
-            if is_int {
-                Ok(Meaning::Int(f))
-            } else {
-                Err(refused(ReadKind::Sort, at))
-            }
-        }
-        Meaning::Bool(i) => {
-            if is_int {
-                Err(refused(ReadKind::Sort, at))
-            } else {
-                Ok(Meaning::Bool(i))
-            }
-        }
     }
 }
 

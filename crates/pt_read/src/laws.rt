@@ -47,7 +47,7 @@ pub fn scopes_stay_sound()
 /// command gives out, its list has, so the commands that are left have as much less.
 pub fn texts_give_out_few_numbers()
     ensures whole { (text : List ℕ) → numbers_in (script text) ≤ length text }
-    ensures given { (c : CommandValue) (old left : Script) (s t : State) → IsNext (Some c) old s left t → (after c.kind t).given + numbers_in left < s.given + numbers_in old }
+    ensures given { (c : CommandValue) (old left : Script) (s t : State) → IsNext (Some c) old s left t → length (after c.kind t).given + numbers_in left < length s.given + numbers_in old }
     ensures fewer { (c : CommandValue) (old left : Script) (s t : State) → IsNext (Some c) old s left t → numbers_in left < numbers_in old }
 {
     lists_are_no_larger_than_their_text();

@@ -3,27 +3,30 @@ ghost use Rattle.pt_formula.specs.declared.node.Position.{Position as PositionVa
 ghost use Rattle.std.specs.Prelude.{◌≤◌, ◌≡◌, ◌==◌, length, ◌<◌, Some, option_map, IfSome, IfOk};
 ghost use Rattle.std.specs.List.{list_all};
 ghost use Rattle.pt_formula.specs.Formulas.{contains, variables_of};
-ghost use Rattle.pt_syntax.specs.declared.kinds.ReadKind.TheVariants.{Sort};
+ghost use Rattle.pt_syntax.specs.declared.kinds.ReadKind.TheVariants.{Sort as WrongSort};
 ghost use Rattle.pt_terms.specs.Elaboration.{require};
 ghost use Rattle.pt_terms.specs.Gives.{Says, Gives};
 ghost use Rattle.pt_terms.specs.Names.{Defined};
 ghost use Rattle.pt_terms.specs.declared.meaning.Meaning.TheVariants.{Bool as Truth};
 ghost use Rattle.pt_terms.specs.Symbols.{shown_use};
 ghost use Rattle.pt_grammar.specs.declared.verbs.Verb.TheVariants as verb;
-ghost use Rattle.pt_read.specs.Commands.{predicate, predicate_by, understood};
+ghost use Rattle.pt_read.specs.Commands.{predicate, predicate_by, only_integers, understood};
+ghost use Rattle.pt_terms.specs.declared.meaning.Sort.TheVariants as sort;
+ghost use Rattle.pt_terms.specs.Sorts.{same_sort, same_sorts};
 ghost use Rattle.pt_read.specs.Context.{IsStateIn, IsKindIn};
 ghost use Rattle.pt_terms.specs.Sound.{IsUseIn};
 
 use crate::command::{CommandKind, Predicate};
 use crate::context::Context;
-use crate::numerals::{integers, number};
+use crate::numerals::{components, number};
 use pt_formula::{MAX_TRACKS, Position};
 use pt_grammar::exprs::{name_in, place};
 use pt_syntax::{ReadKind, ReadRefusal, SExpr};
 use pt_terms::elaborator::Elaborator;
-use pt_terms::meaning::Meaning;
+use pt_terms::meaning::{Meaning, Sort};
 use pt_terms::parameters::Parameters;
 use pt_terms::refusals::refused;
+use pt_terms::sorts::Sorts;
 use pt_terms::symbols::Use;
 use std::alloc::Global;
 
@@ -39,14 +42,52 @@ fn are_among(parameters: &Parameters, variables: &[u32]) -> bool
     true
 }
 
-/// That two predicates have as many parameters.
-fn same_length(x: &Predicate, y: &Predicate, at: Position) -> Result<(), ReadRefusal>
-    ensures { Says (λ _. tt {0}) result (require (length x.now.parameters == length y.now.parameters) Sort at) }
+/// Whether two lists of sorts are equal.
+fn are_same(xs: &[Sort], ys: &[Sort]) -> bool
+    ensures { result ≡ same_sorts xs.now ys.now }
 {
-    if x.parameters.len() == y.parameters.len() {
+    if xs.len() != ys.len() {
+        return false;
+    }
+    for i in 0..xs.len() {
+        if !xs[i].is(ys[i]) {
+            return false;
+        }
+    }
+    true
+}
+
+/// That two predicates have as many parameters, of the same sorts.
+fn same_parameters(x: &Predicate, y: &Predicate, at: Position) -> Result<(), ReadRefusal>
+    ensures { Says (λ _. tt {0}) result (require (same_sorts x.now.sorts y.now.sorts) WrongSort at) }
+{
+    if are_same(x.sorts.as_slice(), y.sorts.as_slice()) {
         Ok(())
     } else {
         Err(refused(ReadKind::Sort, at))
+    }
+}
+
+/// Whether all sorts are Int.
+fn are_integers(sorts: &[Sort]) -> bool
+    ensures { result ≡ list_all (same_sort sort.Int) sorts.now }
+{
+    for sort in sorts {
+        if !Sort::Int.is(*sort) {
+            return false;
+        }
+    }
+    true
+}
+
+/// That all parameters of a predicate are of sort Int.
+fn integers_alone(e: &SExpr, x: &Predicate) -> Result<(), ReadRefusal>
+    ensures { Says (λ _. tt {0}) result (only_integers e.now x.now) }
+{
+    if are_integers(x.sorts.as_slice()) {
+        Ok(())
+    } else {
+        Err(refused(ReadKind::Unsupported, place(e)))
     }
 }
 
@@ -58,16 +99,19 @@ fn is_closed(work: &Elaborator, parameters: &Parameters, body: u32) -> bool
     are_among(parameters, work.formula().variables(body))
 }
 
-/// The predicate of these parameters and this body. Linear in the parameters, which are few where the answer is no refusal.
+/// The predicate of these parameters of these sorts and this body. Linear in the parameters, which are few where the answer is no refusal.
 fn predicate_with(
     work: &Elaborator,
     alloc: Global,
     at: Position,
     parameters: &Parameters,
+    sorts: &Sorts,
     body: u32,
 ) -> Result<Predicate, ReadRefusal>
-    requires { body < length work.now.formula }
-    ensures { Gives (λ p. p) result work.now work.now (predicate_by at (Some (Defined parameters.now (Truth body)))) }
+    requires body { body < length work.now.formula }
+    requires sorts { length sorts.now ≡ length parameters.now }
+    ensures gives { Gives (λ p. p) result work.now work.now (predicate_by at (Some (Defined parameters.now sorts.now (Truth body)))) }
+    ensures sorts { IfOk result (λ p. length p.sorts ≡ length p.parameters) }
 {
     if !is_closed(work, parameters, body) {
         return Err(refused(ReadKind::Unsupported, at));
@@ -76,7 +120,12 @@ fn predicate_with(
         return Err(refused(ReadKind::Tracks, at));
     }
     let parameters = Parameters::copy_of(alloc, parameters.as_slice())?;
-    Ok(Predicate { parameters, body })
+    let sorts = Sorts::copy_of(alloc, sorts.as_slice())?;
+    Ok(Predicate {
+        parameters,
+        sorts,
+        body,
+    })
 }
 
 /// The predicate that a name stands for.
@@ -87,14 +136,15 @@ fn predicate_used(
     found: Option<&Use>,
 ) -> Result<Predicate, ReadRefusal>
     requires { IfSome found (λ u. IsUseIn work.now (shown_use u.now)) }
-    ensures { Gives (λ p. p) result work.now work.now (predicate_by at (option_map (λ u. shown_use u.now) found.entry)) }
+    ensures gives { Gives (λ p. p) result work.now work.now (predicate_by at (option_map (λ u. shown_use u.now) found.entry)) }
+    ensures sorts { IfOk result (λ p. length p.sorts ≡ length p.parameters) }
 {
     match found {
-        Some(Use::Definition(parameters, meaning)) => match meaning {
-            Meaning::Bool(body) => predicate_with(work, alloc, at, parameters, *body),
+        Some(Use::Definition(parameters, sorts, meaning)) => match meaning {
+            Meaning::Bool(body) => predicate_with(work, alloc, at, parameters, sorts, *body),
             Meaning::Int(_) => Err(refused(ReadKind::Sort, at)),
         },
-        Some(Use::Constant(_)) => Err(refused(ReadKind::Sort, at)),
+        Some(Use::Constant(..)) => Err(refused(ReadKind::Sort, at)),
         None => Err(refused(ReadKind::Unknown, at)),
     }
 }
@@ -107,7 +157,8 @@ fn predicate(
     e: &SExpr,
 ) -> Result<Predicate, ReadRefusal>
     requires { IsStateIn work.now context.now }
-    ensures { Gives (λ p. p) result work.now work.now (predicate context.now e.now) }
+    ensures gives { Gives (λ p. p) result work.now work.now (predicate context.now e.now) }
+    ensures sorts { IfOk result (λ p. length p.sorts ≡ length p.parameters) }
 {
     predicate_used(work, alloc, place(e), context.live().find(name_in(e)))
 }
@@ -128,8 +179,10 @@ pub(crate) fn set_equal(
         [a, b, ..] => {
             let x = predicate(work, alloc, context, a)?;
             let y = predicate(work, alloc, context, b)?;
-            same_length(&x, &y, place(b))?;
-            Ok(CommandKind::SetEqual(x, y))
+            match same_parameters(&x, &y, place(b)) {
+                Ok(()) => Ok(CommandKind::SetEqual(x, y)),
+                Err(refusal) => Err(refusal),
+            }
         }
         _ => unreachable!(),
     }
@@ -151,8 +204,10 @@ pub(crate) fn set_subset(
         [a, b, ..] => {
             let x = predicate(work, alloc, context, a)?;
             let y = predicate(work, alloc, context, b)?;
-            same_length(&x, &y, place(b))?;
-            Ok(CommandKind::SetSubset(x, y))
+            match same_parameters(&x, &y, place(b)) {
+                Ok(()) => Ok(CommandKind::SetSubset(x, y)),
+                Err(refusal) => Err(refusal),
+            }
         }
         _ => unreachable!(),
     }
@@ -194,6 +249,7 @@ pub(crate) fn set_finite(
     match items {
         [a, ..] => {
             let x = predicate(work, alloc, context, a)?;
+            integers_alone(a, &x)?;
             Ok(CommandKind::SetFinite(x))
         }
         _ => unreachable!(),
@@ -215,6 +271,7 @@ pub(crate) fn set_states(
     match items {
         [a, ..] => {
             let x = predicate(work, alloc, context, a)?;
+            integers_alone(a, &x)?;
             Ok(CommandKind::SetStates(x))
         }
         _ => unreachable!(),
@@ -240,7 +297,7 @@ pub(crate) fn set_member(
             if values.len() != x.parameters.len() {
                 return Err(refused(ReadKind::Sort, at));
             }
-            let zs = integers(alloc, values)?;
+            let zs = components(alloc, x.sorts.as_slice(), values)?;
             Ok(CommandKind::SetMember(x, zs))
         }
         _ => unreachable!(),
@@ -262,6 +319,7 @@ pub(crate) fn set_list(
     match items {
         [a, n, ..] => {
             let x = predicate(work, alloc, context, a)?;
+            integers_alone(a, &x)?;
             let k = number(n)?;
             if k > 1000 {
                 return Err(refused(ReadKind::Unsupported, place(n)));

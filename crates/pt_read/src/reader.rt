@@ -45,7 +45,7 @@ impl<'a> Reader<'a> {
         alloc: Global,
         scope: &mut Scope,
     ) -> Result<Option<Command>, ReadRefusal>
-        requires { scope.old.given ≤ 2 ^ 31 }
+        requires { length scope.old.given ≤ 2 ^ 31 }
         ensures answer { Answers result self.old scope.old self.new scope.new }
         ensures adds { OnlyAdds scope.old scope.new }
         ensures fits { IfOk result (λ read. IfSome read (λ c. FitsKind c.kind scope.new)) }

@@ -6,9 +6,10 @@ use pt_syntax::{Position, ReadRefusal, SExpr};
 use pt_terms::arithmetic::copy_of_meaning;
 use pt_terms::bytes::Bytes;
 use pt_terms::elaborator::Elaborator;
-use pt_terms::laws::terms_are_over_the_names_that_they_see;
-use pt_terms::meaning::Constant;
+use pt_terms::laws::{solutions_depend_on_oddness_alone, terms_are_over_the_names_that_they_see};
+use pt_terms::meaning::{Constant, Sort};
 use pt_terms::parameters::Parameters;
+use pt_terms::sorts::Sorts;
 use pt_terms::symbols::{Symbols, Use};
 use std::alloc::Global;
 use std::marker::Model;
@@ -61,7 +62,9 @@ fn assertions_up_to(assertions: &[Assertion], level: u128) -> usize
 
 /// The readers take constant time.
 impl Scope {
-    ghost use Rattle.std.specs.Prelude.{◌<◌, ◌≤◌, ◌^◌, length, IfOk, OnOk, OnErr};
+    ghost use Rattle.std.specs.Prelude.{◌<◌, ◌≤◌, ◌^◌, ◌↔◌, ℕ, ℤ, List, length, IfOk, OnOk, OnErr};
+    ghost use Rattle.pt_formula.specs.Formulas.{tree_of};
+    ghost use Rattle.pt_formula.specs.Truth.{Solutions};
     ghost use Rattle.pt_read.specs.Scope.{initial, after, conjunction};
     ghost use Rattle.pt_terms.specs.Names.{constants_in, is_live};
     ghost use Rattle.pt_read.specs.Fits.{FitsKind, CanPop, IsNewConstant, IsNewDefinition, IsNewAssertion};
@@ -69,8 +72,9 @@ impl Scope {
     ghost use Rattle.pt_read.specs.Commands.{elaborate};
     ghost use Rattle.pt_read.specs.Reader.{Elaborated, OnlyAdds};
     ghost use Rattle.pt_read.specs.Context.{joined};
+    ghost use Rattle.pt_terms.specs.Sorts.{HasSort, AgreeBySort};
 
-    /// Node 0 alone, no names, level 0, and no variable number given.
+    /// Node 0 alone, no names, level 0, and no variable given out.
     pub fn new(alloc: Global) -> Result<Scope, NoMemory>
         ensures { IfOk result (λ s. s ≡ initial) }
     {
@@ -83,10 +87,12 @@ impl Scope {
         })
     }
 
-    /// The formula of all nodes so far.
+    /// The formula of all nodes so far. Of variables of sort Bool the solutions of its nodes depend on the oddness alone.
     pub fn formula(&self) -> &Formula
-        ensures { result.now ≡ self.now.formula }
+        ensures value { result.now ≡ self.now.formula }
+        ensures oddness { (i : ℕ) (y z : List ℤ) → AgreeBySort self.now.given (tree_of self.now.formula i) y z → Solutions (tree_of self.now.formula i) y ↔ Solutions (tree_of self.now.formula i) z }
     {
+        solutions_depend_on_oddness_alone();
         self.work.formula()
     }
 
@@ -97,11 +103,19 @@ impl Scope {
         self.depth
     }
 
-    /// How many variable numbers have been given.
+    /// How many variables have been given out.
     pub fn given(&self) -> u32
-        ensures { result ≡ self.now.given }
+        ensures { result ≡ length self.now.given }
     {
         self.work.given()
+    }
+
+    /// The sort of a variable that this scope has given out.
+    pub fn sort(&self, v: Var) -> Sort
+        requires { v < length self.now.given }
+        ensures { HasSort self.now.given v result }
+    {
+        self.work.sort(v)
     }
 
     /// The live constants in the order of their declarations.
@@ -133,7 +147,11 @@ impl Scope {
         ensures err { OnErr result (self.new ≡ self.old) }
     {
         match &command.kind {
-            CommandKind::Declare { name, variable } => self.declare(alloc, name, *variable),
+            CommandKind::Declare {
+                name,
+                variable,
+                sort,
+            } => self.declare(alloc, name, *variable, *sort),
             CommandKind::Define { definition } => self.define(alloc, definition),
             CommandKind::Assert { term, conjunction } => self.add_assertion(*term, *conjunction),
             CommandKind::Push(levels) => {
@@ -180,18 +198,27 @@ impl Scope {
         command
     }
 
-    fn declare(&mut self, alloc: Global, name: &Bytes, variable: Var) -> Result<(), NoMemory>
-        requires { IsNewConstant self.old name.now variable }
-        ensures ok { OnOk result (self.new ≡ after (kind.Declare name.now variable) self.old) }
+    fn declare(
+        &mut self,
+        alloc: Global,
+        name: &Bytes,
+        variable: Var,
+        sort: Sort,
+    ) -> Result<(), NoMemory>
+        requires { IsNewConstant self.old name.now variable sort }
+        ensures ok { OnOk result (self.new ≡ after (kind.Declare name.now variable sort) self.old) }
         ensures err { OnErr result (self.new ≡ self.old) }
     {
         let key = Vec::from_slice(alloc, name.as_slice())?;
         let constant = Constant {
             name: Bytes::copy_of(alloc, name.as_slice())?,
             variable,
+            sort,
         };
         self.constants.push(constant)?;
-        let added = self.symbols.push(key, Use::Constant(variable), self.depth);
+        let added = self
+            .symbols
+            .push(key, Use::Constant(variable, sort), self.depth);
         if added.is_err() {
             let _ = self.constants.pop();
         }
@@ -205,8 +232,9 @@ impl Scope {
     {
         let key = Vec::from_slice(alloc, definition.name.as_slice())?;
         let parameters = Parameters::copy_of(alloc, definition.parameters.as_slice())?;
+        let sorts = Sorts::copy_of(alloc, definition.sorts.as_slice())?;
         let meaning = copy_of_meaning(alloc, &definition.meaning)?;
-        let stands_for = Use::Definition(parameters, meaning);
+        let stands_for = Use::Definition(parameters, sorts, meaning);
         self.symbols.push(key, stands_for, self.depth)
     }
 

@@ -10,4 +10,5 @@ mod nodes;
 mod outline;
 mod refused;
 mod sets;
+mod sorts;
 mod terms;

@@ -28,6 +28,7 @@ use Rattle.pt_script.specs.declared.solution.LeastSolution.TheVariants.{Narrow, 
 use Rattle.pt_script.specs.State.{Standing}
 use Rattle.pt_script.specs.Texts.{line, truth, value_pairs, model, vectors}
 use Rattle.pt_script.specs.Step.{set_of, roots, conjunction_variables, ConjunctionHolds, values_of, IfNarrow, Says, success_after, standing_after, with_model, plain_reply, IsAnswered, NeedsModel, IsRefusedItself, IsFine}
+use Rattle.pt_script.proofs.SetTellings.{as-many}
 use Rattle.pt_script.specs.Answering.{HasReply, HasRefusal}
 
 -- the solutions of a formula, over any variables
@@ -163,7 +164,7 @@ module _ (laws : Laws) (s : Standing) (p : Position) (bound : ℕ) where
   outcome kind.SetLogic fits none = inl (plain_reply s.success, standing_after kind.SetLogic s, record { roots = none; fine = tt; answer = (refl, refl) })
   outcome kind.SetInfo fits none = inl (plain_reply s.success, standing_after kind.SetInfo s, record { roots = none; fine = tt; answer = (refl, refl) })
   outcome (kind.SetOption value) fits none = inl (plain_reply (success_after (kind.SetOption value) s.success), standing_after (kind.SetOption value) s, record { roots = none; fine = tt; answer = (refl, refl) })
-  outcome (kind.Declare name v) fits none = inl (plain_reply s.success, standing_after (kind.Declare name v) s, record { roots = none; fine = tt; answer = (refl, refl) })
+  outcome (kind.Declare name v t) fits none = inl (plain_reply s.success, standing_after (kind.Declare name v t) s, record { roots = none; fine = tt; answer = (refl, refl) })
   outcome (kind.Define d) fits none = inl (plain_reply s.success, standing_after (kind.Define d) s, record { roots = none; fine = tt; answer = (refl, refl) })
   outcome (kind.Assert i c) fits none = inl (plain_reply s.success, standing_after (kind.Assert i c) s, record { roots = none; fine = tt; answer = (refl, refl) })
   outcome kind.CheckSat fits none = check-sat none
@@ -177,8 +178,8 @@ module _ (laws : Laws) (s : Standing) (p : Position) (bound : ℕ) where
   outcome (kind.Echo literal) fits none = inl (line literal, standing_after (kind.Echo literal) s, record { roots = none; fine = tt; answer = (refl, refl) })
   outcome kind.Exit fits none = inl (plain_reply s.success, standing_after kind.Exit s, record { roots = none; fine = tt; answer = (refl, refl) })
   outcome (kind.SetEqual a b) fits none =
-      saying (kind.SetEqual a b) (SameSet (length a.parameters) (set_of s.scope a) (set_of s.scope b)) none tt (λ reply h. (h, refl)) (laws.equal (tree_of s.scope.formula a.body) (tree_of s.scope.formula b.body) a.parameters b.parameters (sym fits.2))
-  outcome (kind.SetSubset a b) fits none = including a b (sym fits.2) none
+      saying (kind.SetEqual a b) (SameSet (length a.parameters) (set_of s.scope a) (set_of s.scope b)) none tt (λ reply h. (h, refl)) (laws.equal (tree_of s.scope.formula a.body) (tree_of s.scope.formula b.body) a.parameters b.parameters (sym (as-many s.scope a b fits.0 fits.1 fits.2)))
+  outcome (kind.SetSubset a b) fits none = including a b (sym (as-many s.scope a b fits.0 fits.1 fits.2)) none
   outcome (kind.SetEmpty a) fits none = saying (kind.SetEmpty a) (IsEmptySet (length a.parameters) (set_of s.scope a)) none tt (λ reply h. (h, refl)) (empty-or-not a)
   outcome (kind.SetFinite a) fits none = saying (kind.SetFinite a) (IsBounded (length a.parameters) (set_of s.scope a)) none tt (λ reply h. (h, refl)) (laws.bounded (tree_of s.scope.formula a.body) a.parameters)
   outcome (kind.SetStates a) fits none =
@@ -199,7 +200,7 @@ module _ (laws : Laws) (s : Standing) (p : Position) (bound : ℕ) where
   roots-in h kind.SetLogic fits = tt
   roots-in h kind.SetInfo fits = tt
   roots-in h (kind.SetOption value) fits = tt
-  roots-in h (kind.Declare name v) fits = tt
+  roots-in h (kind.Declare name v t) fits = tt
   roots-in h (kind.Define d) fits = tt
   roots-in h (kind.Assert i c) fits = tt
   roots-in h (kind.GetValue cs) fits = tt

@@ -1,5 +1,5 @@
 -- What queries of handles say of the sets of predicates.
-use Rattle.std.proofs.Common.{◌≡◌, ◌↔◌, inl, inr, ℕ, Bool, true, false, List, [], ◌∷◌, length, refl, ap, sym, subst, ◌∙◌}
+use Rattle.std.proofs.Common.{◌≡◌, ◌↔◌, inl, inr, ℕ, suc, Bool, true, false, List, [], ◌∷◌, length, refl, ap, sym, subst, ◌∙◌}
 use Rattle.std.specs.Prelude.{IsTrue, decimal}
 use Rattle.std.specs.List.{AllByRecursion}
 use Rattle.pt_sets.specs.Words.{Vector}
@@ -18,6 +18,9 @@ use Rattle.pt_formula.specs.declared.node.Position.{Position}
 use Rattle.pt_read.specs.declared.command.Predicate.{Predicate}
 use Rattle.pt_read.specs.declared.command.CommandKind.{CommandKind}
 use Rattle.pt_read.specs.declared.command.CommandKind.TheVariants as kind
+use Rattle.pt_terms.specs.declared.meaning.Sort.{Sort}
+use Rattle.pt_terms.specs.Sorts.{HaveSorts}
+use Rattle.pt_read.specs.Fits.{IsPredicate}
 use Rattle.pt_read.specs.Scope.{State}
 use Rattle.pt_script.specs.declared.fault.SessionFault.TheVariants.{States, WideValue}
 use Rattle.pt_script.specs.Texts.{line, truth, vectors}
@@ -41,6 +44,16 @@ about-two make k x y p q shows is about =
     let first : x ≡ p = cc in
     let second : y ≡ q = cc in
     is ∙ ap (λ (a : Predicate). make a y) first ∙ ap (make p) second
+
+have-length : (given : List Sort) (vs : List ℕ) (ts : List Sort) → HaveSorts given vs ts → length ts ≡ length vs
+have-length given [] [] h = refl
+have-length given [] (t ∷ ts) h = absurd h
+have-length given (v ∷ vs) [] h = absurd h
+have-length given (v ∷ vs) (t ∷ ts) h = ap suc (have-length given vs ts h.1)
+
+-- predicates with the same sorts have as many parameters
+pub as-many : (s : State) (p q : Predicate) → IsPredicate s p → IsPredicate s q → p.sorts ≡ q.sorts → length p.parameters ≡ length q.parameters
+as-many s p q h k same = sym (have-length s.given p.parameters p.sorts h.parameters.1) ∙ ap length same ∙ have-length s.given q.parameters q.sorts k.parameters.1
 
 module _ (s : State) (bound : ℕ) (p : Predicate) (t : ℕ) (X : VectorSet) (size : t ≡ length p.parameters) (alike : TellsAlike (length p.parameters) X (set_of s p)) where
   abbrev n : ℕ

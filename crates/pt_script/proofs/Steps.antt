@@ -45,7 +45,7 @@ change-parts : (s : Standing) (bound : ℕ) (k : CommandKind) → changes k ≡ 
 change-parts s bound kind.SetLogic is inside = (refl, tt, λ reply e. (e, refl))
 change-parts s bound kind.SetInfo is inside = (refl, tt, λ reply e. (e, refl))
 change-parts s bound (kind.SetOption value) is inside = (refl, tt, λ reply e. (e, refl))
-change-parts s bound (kind.Declare name v) is inside = (refl, tt, λ reply e. (e, refl))
+change-parts s bound (kind.Declare name v t) is inside = (refl, tt, λ reply e. (e, refl))
 change-parts s bound (kind.Define d) is inside = (refl, tt, λ reply e. (e, refl))
 change-parts s bound (kind.Assert t c) is inside = (refl, tt, λ reply e. (e, refl))
 change-parts s bound (kind.Push n) is inside = (refl, tt, λ reply e. (e, refl))

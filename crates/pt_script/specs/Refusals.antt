@@ -30,7 +30,7 @@ abbrev pub changes : CommandKind → Bool
 changes kind.SetLogic = true
 changes kind.SetInfo = true
 changes (kind.SetOption value) = true
-changes (kind.Declare name v) = true
+changes (kind.Declare name v t) = true
 changes (kind.Define d) = true
 changes (kind.Assert t c) = true
 changes (kind.Push n) = true

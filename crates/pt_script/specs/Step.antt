@@ -90,7 +90,7 @@ success_after _ success = success
 
 -- whether the model stands after a command as before: nothing changed that the conjunction and its values are read from
 abbrev pub keeps_model : CommandKind → Bool
-keeps_model (kind.Declare name v) = false
+keeps_model (kind.Declare name v t) = false
 keeps_model (kind.Define d) = false
 keeps_model (kind.Assert t c) = false
 keeps_model (kind.Push n) = false

@@ -2,10 +2,13 @@
 use Rattle.std.specs.Prelude.{ℕ, suc, Bool, true, false, not, ◌&&◌, if◌then◌else◌, List, [], ◌∷◌, ◌++◌, map, flat_map, ℤ, pos, negsuc, codes, decimal}
 use Rattle.std.specs.List.{list_all, join_with_byte}
 use Rattle.pt_formula.specs.declared.node.Position.{Position}
+use Rattle.pt_formula.specs.Oddness.{is_odd}
 use Rattle.pt_syntax.specs.declared.kinds.ReadKind.{ReadKind}
-use Rattle.pt_syntax.specs.declared.kinds.ReadKind.TheVariants.{Syntax, Unknown, Sort, Nonlinear, Coefficient, Unsupported, Redeclared, Depth, Tracks, Nodes, Logic, NoMemory}
+use Rattle.pt_syntax.specs.declared.kinds.ReadKind.TheVariants.{Syntax, Unknown, Sort as WrongSort, Nonlinear, Coefficient, Unsupported, Redeclared, Depth, Tracks, Nodes, Logic, NoMemory}
 use Rattle.pt_syntax.specs.declared.kinds.ReadRefusal.{ReadRefusal}
 use Rattle.pt_terms.specs.declared.meaning.Constant.{Constant}
+use Rattle.pt_terms.specs.declared.meaning.Sort.{Sort}
+use Rattle.pt_terms.specs.declared.meaning.Sort.TheVariants as sort
 use Rattle.pt_syntax.specs.Bytes.{is_symbol_byte, is_digit}
 use Rattle.pt_script.specs.declared.fault.SessionFault.{SessionFault}
 use Rattle.pt_script.specs.declared.fault.SessionFault.TheVariants as fault
@@ -28,19 +31,32 @@ is_simple (b ∷ bytes) = not (is_digit b) && list_all is_symbol_byte (b ∷ byt
 abbrev pub symbol : List ℕ → List ℕ
 symbol name = if is_simple name then name else codes "|" ++ name ++ codes "|"
 
+abbrev pub truth_word : Bool → List ℕ
+truth_word true = codes "true"
+truth_word false = codes "false"
+
 abbrev pub truth : Bool → List ℕ
 truth true = line (codes "true")
 truth false = line (codes "false")
 
+-- the value of a variable of this sort: an odd one of sort Bool is true
+abbrev pub value : Sort → ℤ → List ℕ
+value sort.Int z = integer z
+value sort.Bool z = truth_word (is_odd z)
+
+abbrev pub sort_name : Sort → List ℕ
+sort_name sort.Int = codes "Int"
+sort_name sort.Bool = codes "Bool"
+
 -- ((x v) (y w)), with the values of variables
 abbrev pub value_pair : (ℕ → ℤ) → Constant → List ℕ
-value_pair values c = list (symbol c.name ∷ integer (values c.variable) ∷ [])
+value_pair values c = list (symbol c.name ∷ value c.sort (values c.variable) ∷ [])
 
 abbrev pub value_pairs : (ℕ → ℤ) → List Constant → List ℕ
 value_pairs values cs = line (list (map (value_pair values) cs))
 
 abbrev pub model_line : (ℕ → ℤ) → Constant → List ℕ
-model_line values c = line (codes "  (define-fun " ++ symbol c.name ++ codes " () Int " ++ integer (values c.variable) ++ codes ")")
+model_line values c = line (codes "  (define-fun " ++ symbol c.name ++ codes " () " ++ sort_name c.sort ++ codes " " ++ value c.sort (values c.variable) ++ codes ")")
 
 abbrev pub model : (ℕ → ℤ) → List Constant → List ℕ
 model values cs = line (codes "(") ++ flat_map (model_line values) cs ++ line (codes ")")
@@ -57,7 +73,7 @@ error_line p text = line (codes "(error \"" ++ decimal p.line ++ codes ":" ++ de
 abbrev pub read_text : ReadKind → List ℕ
 read_text Syntax = codes "syntax"
 read_text Unknown = codes "unknown symbol"
-read_text Sort = codes "sort or number of arguments"
+read_text WrongSort = codes "sort or number of arguments"
 read_text Nonlinear = codes "nonlinear"
 read_text Coefficient = codes "coefficient outside 64 bits"
 read_text Unsupported = codes "unsupported"

@@ -72,7 +72,7 @@ impl Session {
         alloc: Global,
         reader: &mut Reader,
     ) -> Result<Option<Command>, ReadRefusal>
-        requires { self.old.scope.given ≤ 2 ^ 31 }
+        requires { length self.old.scope.given ≤ 2 ^ 31 }
         ensures answer { Answers result reader.old self.old.scope reader.new self.new.scope }
         ensures adds { OnlyAdds self.old.scope self.new.scope }
         ensures rest { self.new ≡ in_scope self.new.scope self.old }

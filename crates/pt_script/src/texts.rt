@@ -4,12 +4,12 @@ ghost use Rattle.std.specs.List.{list_all, join_with_byte};
 ghost use Rattle.pt_syntax.specs.Bytes.{is_symbol_byte};
 ghost use Rattle.pt_formula.specs.Truth.{valuation};
 ghost use Rattle.pt_query.specs.Queries.{vectors_of};
-ghost use Rattle.pt_script.specs.Texts.{integer, symbol, is_simple, error_line, line, truth, value_pair, value_pairs, model_line, model, read_text, refusal_line, fault_line, too_long, list, vectors};
+ghost use Rattle.pt_script.specs.Texts.{integer, value, truth_word, sort_name, symbol, is_simple, error_line, line, truth, value_pair, value_pairs, model_line, model, read_text, refusal_line, fault_line, too_long, list, vectors};
 
 use crate::fault::SessionFault;
 use pt_digits::NoMemory;
 use pt_formula::Position;
-use pt_read::{Constant, ReadKind, ReadRefusal};
+use pt_read::{Constant, ReadKind, ReadRefusal, Sort};
 use pt_syntax::{is_decimal_digit, is_in_symbol};
 use std::alloc::Global;
 
@@ -26,6 +26,38 @@ pub(crate) fn write_integer(alloc: Global, out: &mut Vec<u8>, x: i128) -> Result
         out.extend_from_slice(text.as_bytes())?;
     }
     Ok(())
+}
+
+/// `true` or `false`.
+fn write_truth_word(out: &mut Vec<u8>, value: bool) -> Result<(), NoMemory>
+    ensures { OnOk result (out.new.items ≡ out.old.items ++ truth_word value) }
+{
+    if value {
+        out.extend_from_slice(b"true")?;
+    } else {
+        out.extend_from_slice(b"false")?;
+    }
+    Ok(())
+}
+
+/// The value of a variable of this sort: an odd one of sort Bool is true.
+fn write_value(alloc: Global, out: &mut Vec<u8>, sort: Sort, x: i128) -> Result<(), NoMemory>
+    ensures { OnOk result (out.new.items ≡ out.old.items ++ value sort x) }
+{
+    match sort {
+        Sort::Int => write_integer(alloc, out, x),
+        Sort::Bool => write_truth_word(out, x.unsigned_abs() % 2 == 1),
+    }
+}
+
+/// The name of a sort.
+fn name_of_sort(sort: Sort) -> &'static [u8]
+    ensures { result.now ≡ sort_name sort }
+{
+    match sort {
+        Sort::Int => b"Int",
+        Sort::Bool => b"Bool",
+    }
 }
 
 /// A text and the end of its line.
@@ -135,7 +167,8 @@ fn write_pair(
     out.push(40)?;
     write_symbol(out, constant.name.as_slice())?;
     out.push(32)?;
-    write_integer(alloc, out, value_of(variables, values, constant.variable))?;
+    let x = value_of(variables, values, constant.variable);
+    write_value(alloc, out, constant.sort, x)?;
     out.push(41)?;
     Ok(())
 }
@@ -191,8 +224,11 @@ fn write_model_line(
 {
     out.extend_from_slice(b"  (define-fun ")?;
     write_symbol(out, constant.name.as_slice())?;
-    out.extend_from_slice(b" () Int ")?;
-    write_integer(alloc, out, value_of(variables, values, constant.variable))?;
+    out.extend_from_slice(b" () ")?;
+    out.extend_from_slice(name_of_sort(constant.sort))?;
+    out.push(32)?;
+    let x = value_of(variables, values, constant.variable);
+    write_value(alloc, out, constant.sort, x)?;
     write_line(out, b")")?;
     Ok(())
 }

@@ -1,6 +1,6 @@
 -- How many variable numbers steps give out; those of the theories give out none.
-use Rattle.std.proofs.Common.{◌≡◌, ℕ, zero, suc, ◌+◌, ◌≤◌, ◌^◌, Bool, true, false, not, ◌||◌, ◌==◌, if◌then◌else◌, List, [], ◌∷◌, ◌++◌, length, map, zip, refl, sym, ap, arith, ℤ}
-use Rattle.std.specs.Prelude.{Result, Ok, Err, pos, negsuc, neg_ℤ, ◌-ℤ◌, nat_lt, bytes_eq, codes, sum_by}
+use Rattle.std.proofs.Common.{◌≡◌, ℕ, ◌+◌, ◌≤◌, Bool, true, false, not, ◌==◌, if◌then◌else◌, List, [], ◌∷◌, ◌++◌, length, refl, ap, arith, ℤ, length-append, Option, Some, None}
+use Rattle.std.specs.Prelude.{Result, Ok, Err, pos, negsuc, neg_ℤ, ◌-ℤ◌, sum_by}
 use Rattle.std.specs.Int.{int_rem_euclid}
 use Rattle.std.proofs.lemmas.List.Sums.{sum_by-cons}
 use Rattle.pt_formula.specs.declared.node.Node.{Node}
@@ -14,7 +14,7 @@ use Rattle.pt_formula.specs.Forms.{Term}
 use Rattle.pt_formula.specs.Formulas.{made, made_exists, node_at, truth_node}
 use Rattle.pt_formula.specs.Sums.{fits, fits_form, has_few_terms, form_sum, form_difference, form_scale}
 use Rattle.pt_syntax.specs.declared.kinds.ReadKind.{ReadKind}
-use Rattle.pt_syntax.specs.declared.kinds.ReadKind.TheVariants.{Syntax, Sort, Nonlinear, Coefficient, Unsupported, Tracks, Redeclared}
+use Rattle.pt_syntax.specs.declared.kinds.ReadKind.TheVariants.{Sort, Nonlinear, Coefficient, Unsupported, Tracks}
 use Rattle.pt_syntax.specs.declared.kinds.ReadRefusal.{ReadRefusal}
 use Rattle.pt_grammar.specs.declared.words.Operator.{Operator}
 use Rattle.pt_grammar.specs.declared.words.Operator.TheVariants as symbol
@@ -22,7 +22,9 @@ use Rattle.pt_grammar.specs.declared.words.Relation.{Relation}
 use Rattle.pt_grammar.specs.declared.words.Relation.TheVariants as comparison
 use Rattle.pt_terms.specs.declared.meaning.Meaning.{Meaning}
 use Rattle.pt_terms.specs.declared.meaning.Meaning.TheVariants.{Int, Bool as Truth}
-use Rattle.pt_terms.specs.Elaboration.{Work, Elab, give, refuse, follow, ◌>>=◌, require, built, make, make_exists, form, fresh, each, constant_form, variable_form}
+use Rattle.pt_terms.specs.declared.meaning.Sort.{Sort as VariableSort}
+use Rattle.pt_terms.specs.Sorts.{same_sort, sort_of}
+use Rattle.pt_terms.specs.Elaboration.{Work, Elab, give, refuse, follow, ◌>>=◌, require, built, make, make_exists, form, fresh, each, constant_form}
 use Rattle.pt_terms.specs.Theory
 use Rattle.pt_terms.specs.Theory.{Argument}
 use Rattle.pt_terms.specs.Numbers.{AddsAtMost}
@@ -32,7 +34,7 @@ use Rattle.pt_terms.specs.Numbers.{AddsAtMost}
 pub adds-give : {A : Type 0} (n : ℕ) (a : A) → AddsAtMost n (give a)
 adds-give {A} n a w w' x e =
     let pair : (a, w) ≡ (x, w') = cc in
-    let same : w.given ≡ w'.given = ap (λ (q : A × Work). q.1.given) pair in
+    let same : length w.given ≡ length w'.given = ap (λ (q : A × Work). length q.1.given) pair in
     omega (arith, same)
 
 pub adds-refuse : {A : Type 0} (n : ℕ) (kind : ReadKind) (p : Position) → AddsAtMost {A = A} n (refuse kind p)
@@ -41,13 +43,13 @@ adds-refuse {A} n kind p w w' x e = absurd cc
 pub adds-then : {A B : Type 0} (i j : ℕ) (m : Elab A) (f : A → Elab B) → AddsAtMost i m → ((x : A) → AddsAtMost j (f x)) → AddsAtMost (i + j) (m >>= f)
 adds-then {A} {B} i j m f first second w w'' y e = through (m w) refl e
   where
-    through : (r : Result (A × Work) ReadRefusal) → m w ≡ r → follow r f ≡ Ok (y, w'') → w''.given ≤ w.given + (i + j)
+    through : (r : Result (A × Work) ReadRefusal) → m w ≡ r → follow r f ≡ Ok (y, w'') → length w''.given ≤ length w.given + (i + j)
     through (Err refusal) p q = absurd cc
     through (Ok (x, w')) p q = omega (arith, first w w' x p, second x w' w'' y q)
 
 -- the first step adds none
 pub adds-on : {A B : Type 0} (j : ℕ) (m : Elab A) (f : A → Elab B) → AddsAtMost 0 m → ((x : A) → AddsAtMost j (f x)) → AddsAtMost j (m >>= f)
-adds-on j m f first second w w'' y e = let sum : w''.given ≤ w.given + (0 + j) = adds-then 0 j m f first second w w'' y e in omega (arith, sum)
+adds-on j m f first second w w'' y e = let sum : length w''.given ≤ length w.given + (0 + j) = adds-then 0 j m f first second w w'' y e in omega (arith, sum)
 
 pub adds-more : {A : Type 0} (i j : ℕ) (m : Elab A) → i ≤ j → AddsAtMost i m → AddsAtMost j m
 adds-more i j m le h w w' x e = omega (arith, le, h w w' x e)
@@ -56,10 +58,10 @@ pub adds-require : (n : ℕ) (b : Bool) (kind : ReadKind) (p : Position) → Add
 adds-require n true kind p = adds-give n tt
 adds-require n false kind p = adds-refuse n kind p
 
-adds-built : (given n : ℕ) (p : Position) (r : Result (ℕ × List (Node × Position)) FormulaFault) (w' : Work) (a : ℕ) → built given p r ≡ Ok (a, w') → w'.given ≤ given + n
+adds-built : (given : List VariableSort) (n : ℕ) (p : Position) (r : Result (ℕ × List (Node × Position)) FormulaFault) (w' : Work) (a : ℕ) → built given p r ≡ Ok (a, w') → length w'.given ≤ length given + n
 adds-built given n p (Ok r) w' a e =
     let pair : (r.0, record { formula = r.1; given = given }) ≡ (a, w') = cc in
-    let same : given ≡ w'.given = ap (λ (q : ℕ × Work). q.1.given) pair in
+    let same : length given ≡ length w'.given = ap (λ (q : ℕ × Work). length q.1.given) pair in
     omega (arith, same)
 adds-built given n p (Err fault) w' a e = absurd cc
 
@@ -77,11 +79,11 @@ adds-form f p = by (fits_form f) (has_few_terms f)
     by true false = adds-refuse 0 Tracks p
     by false b = adds-refuse 0 Coefficient p
 
-pub adds-fresh : AddsAtMost 1 fresh
-adds-fresh w w' x e =
-    let pair : (w.given, record { formula = w.formula; given = w.given + 1 }) ≡ (x, w') = cc in
-    let next : w.given + 1 ≡ w'.given = ap (λ (q : ℕ × Work). q.1.given) pair in
-    omega (arith, next)
+pub adds-fresh : (s : VariableSort) → AddsAtMost 1 (fresh s)
+adds-fresh s w w' x e =
+    let pair : ◌≡◌ {A = ℕ × Work} (length w.given, record { formula = w.formula; given = w.given ++ s ∷ [] }) (x, w') = cc in
+    let next : length (w.given ++ s ∷ []) ≡ length w'.given = ap (λ (q : ℕ × Work). length q.1.given) pair in
+    omega (arith, next, length-append w.given (s ∷ []))
 
 pub adds-each : {A B : Type 0} (size : A → ℕ) (f : A → Elab B) (xs : List A) → ((x : A) → AddsAtMost (size x) (f x)) → AddsAtMost (sum_by size xs) (each f xs)
 adds-each size f [] h = adds-give 0 []
@@ -269,16 +271,20 @@ adds-divides p n (a ∷ b ∷ more) = adds-refuse 0 Sort p
 
 -- ---- applications of definitions
 
-adds-substituted : (p : Position) (rs : List (ℕ × Form)) (f : Form) (ts : List Term) → AddsAtMost 0 (Theory.substituted p rs f ts)
+adds-substituted : (p : Position) (rs : List (ℕ × Meaning)) (f : Form) (ts : List Term) → AddsAtMost 0 (Theory.substituted p rs f ts)
 adds-substituted p rs f [] = adds-give 0 f
 adds-substituted p rs f (t ∷ ts) =
     adds-on 0 (form (form_scale t.1 (Theory.replacing rs t.0)) p) (λ g. form (form_sum f g) p >>= λ h. Theory.substituted p rs h ts) (adds-form (form_scale t.1 (Theory.replacing rs t.0)) p)
     (λ g. adds-on 0 (form (form_sum f g) p) (λ h. Theory.substituted p rs h ts) (adds-form (form_sum f g) p) (λ h. adds-substituted p rs h ts))
 
-adds-copy-node : (p : Position) (rs : List (ℕ × Form)) (copies : List (ℕ × ℕ)) (n : Node) → AddsAtMost 0 (Theory.copy_node p rs copies n)
-adds-copy-node p rs copies (node.Atom kind terms c) =
-    adds-on 0 (Theory.substituted p rs (constant_form (pos 0)) terms) (λ g. Theory.atom p kind g.terms (Theory.new_constant kind (c -ℤ g.constant))) (adds-substituted p rs (constant_form (pos 0)) terms)
+adds-copied-atom : (p : Position) (rs : List (ℕ × Meaning)) (kind : Kind) (ts : List Term) (c : ℤ) (o : Option ℕ) → AddsAtMost 0 (Theory.copied_atom p rs kind ts c o)
+adds-copied-atom p rs kind ts c (Some i) = adds-give 0 i
+adds-copied-atom p rs kind ts c None =
+    adds-on 0 (Theory.substituted p rs (constant_form (pos 0)) ts) (λ g. Theory.atom p kind g.terms (Theory.new_constant kind (c -ℤ g.constant))) (adds-substituted p rs (constant_form (pos 0)) ts)
     (λ g. adds-atom p kind g.terms (Theory.new_constant kind (c -ℤ g.constant)))
+
+adds-copy-node : (p : Position) (rs : List (ℕ × Meaning)) (copies : List (ℕ × ℕ)) (n : Node) → AddsAtMost 0 (Theory.copy_node p rs copies n)
+adds-copy-node p rs copies (node.Atom kind terms c) = adds-copied-atom p rs kind terms c (Theory.truth_for rs terms)
 adds-copy-node p rs copies (node.Not a) = adds-make (node.Not (Theory.copy_of copies a)) p
 adds-copy-node p rs copies (node.And a b) = adds-make (node.And (Theory.copy_of copies a) (Theory.copy_of copies b)) p
 adds-copy-node p rs copies (node.Or a b) = adds-make (node.Or (Theory.copy_of copies a) (Theory.copy_of copies b)) p
@@ -288,7 +294,7 @@ adds-copy-node p rs copies (node.Exists v a) = adds-make-exists v (Theory.copy_o
 adds-copy-node p rs copies node.True = adds-make node.True p
 adds-copy-node p rs copies node.False = adds-make node.False p
 
-adds-copy-nodes : (p : Position) (rs : List (ℕ × Form)) (f : List (Node × Position)) (copies : List (ℕ × ℕ)) (is : List ℕ) → AddsAtMost 0 (Theory.copy_nodes p rs f copies is)
+adds-copy-nodes : (p : Position) (rs : List (ℕ × Meaning)) (f : List (Node × Position)) (copies : List (ℕ × ℕ)) (is : List ℕ) → AddsAtMost 0 (Theory.copy_nodes p rs f copies is)
 adds-copy-nodes p rs f copies [] = adds-give 0 copies
 adds-copy-nodes p rs f copies (i ∷ rest) =
     adds-on 0 (Theory.copy_node p rs copies (node_at f i)) (λ j. Theory.copy_nodes p rs f ((i, j) ∷ copies) rest) (adds-copy-node p rs copies (node_at f i)) (λ j. adds-copy-nodes p rs f ((i, j) ∷ copies) rest)
@@ -296,19 +302,30 @@ adds-copy-nodes p rs f copies (i ∷ rest) =
 adds-nodes-now : AddsAtMost 0 Theory.nodes_now
 adds-nodes-now w w' f e =
     let pair : (w.formula, w) ≡ (f, w') = cc in
-    let same : w.given ≡ w'.given = ap (λ (q : List (Node × Position) × Work). q.1.given) pair in
+    let same : length w.given ≡ length w'.given = ap (λ (q : List (Node × Position) × Work). length q.1.given) pair in
     omega (arith, same)
 
-adds-copy : (p : Position) (rs : List (ℕ × Form)) (body : ℕ) → AddsAtMost 0 (Theory.copy p rs body)
+adds-copy : (p : Position) (rs : List (ℕ × Meaning)) (body : ℕ) → AddsAtMost 0 (Theory.copy p rs body)
 adds-copy p rs body =
     adds-on 0 Theory.nodes_now (λ f. Theory.copy_nodes p rs f [] (Theory.reached f body) >>= λ copies. give (Theory.copy_of copies body)) adds-nodes-now
     (λ f. adds-on 0 (Theory.copy_nodes p rs f [] (Theory.reached f body)) (λ copies. give (Theory.copy_of copies body)) (adds-copy-nodes p rs f [] (Theory.reached f body)) (λ copies. adds-give 0 (Theory.copy_of copies body)))
 
-adds-instance : (p : Position) (rs : List (ℕ × Form)) (m : Meaning) → AddsAtMost 0 (Theory.instance_of p rs m)
+adds-instance : (p : Position) (rs : List (ℕ × Meaning)) (m : Meaning) → AddsAtMost 0 (Theory.instance_of p rs m)
 adds-instance p rs (Int f) = adds-as-form (Theory.substituted p rs (constant_form f.constant) f.terms) (adds-substituted p rs (constant_form f.constant) f.terms)
 adds-instance p rs (Truth i) = adds-as-truth 0 (Theory.copy p rs i) (adds-copy p rs i)
 
-pub adds-call : (p : Position) (definition : List ℕ × Meaning) (xs : List Argument) → AddsAtMost 0 (Theory.call p definition xs)
+pub adds-of-sort : (s : VariableSort) (p : Position) (m : Meaning) → AddsAtMost 0 (Theory.of_sort s p m)
+adds-of-sort s p m = adds-on 0 (require (same_sort s (sort_of m)) Sort p) (λ _. give m) (adds-require 0 (same_sort s (sort_of m)) Sort p) (λ _. adds-give 0 m)
+
+adds-replacements : (vs : List ℕ) (ss : List VariableSort) (xs : List Argument) → AddsAtMost 0 (Theory.replacements vs ss xs)
+adds-replacements [] ss xs = adds-give 0 []
+adds-replacements (v ∷ vs) [] xs = adds-give 0 []
+adds-replacements (v ∷ vs) (s ∷ ss) [] = adds-give 0 []
+adds-replacements (v ∷ vs) (s ∷ ss) (x ∷ xs) =
+    adds-on 0 (Theory.of_sort s x.0 x.1) (λ m. Theory.replacements vs ss xs >>= λ rs. give ((v, m) ∷ rs)) (adds-of-sort s x.0 x.1)
+    (λ m. adds-on 0 (Theory.replacements vs ss xs) (λ rs. give ((v, m) ∷ rs)) (adds-replacements vs ss xs) (λ rs. adds-give 0 ((v, m) ∷ rs)))
+
+pub adds-call : (p : Position) (definition : List ℕ × List VariableSort × Meaning) (xs : List Argument) → AddsAtMost 0 (Theory.call p definition xs)
 adds-call p definition xs =
-    adds-on 0 (require (length xs == length definition.0) Sort p) (λ _. each Theory.integer xs >>= λ fs. Theory.instance_of p (zip definition.0 fs) definition.1) (adds-require 0 (length xs == length definition.0) Sort p)
-    (λ _. adds-on 0 (each Theory.integer xs) (λ fs. Theory.instance_of p (zip definition.0 fs) definition.1) (adds-none Theory.integer xs adds-integer) (λ fs. adds-instance p (zip definition.0 fs) definition.1))
+    adds-on 0 (require (length xs == length definition.0) Sort p) (λ _. Theory.replacements definition.0 definition.1 xs >>= λ rs. Theory.instance_of p rs definition.2) (adds-require 0 (length xs == length definition.0) Sort p)
+    (λ _. adds-on 0 (Theory.replacements definition.0 definition.1 xs) (λ rs. Theory.instance_of p rs definition.2) (adds-replacements definition.0 definition.1 xs) (λ rs. adds-instance p rs definition.2))

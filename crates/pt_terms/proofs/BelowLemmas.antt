@@ -17,6 +17,9 @@ use Rattle.pt_formula.specs.Truth.{insert_var, union, without, free_variables}
 use Rattle.pt_formula.specs.Formulas.{node_at, entry_node, children, node_tree, tree_of, variables_of, op_node, truth_node, contains, made, made_exists, Builds, IsFormula}
 use Rattle.pt_terms.specs.Sound.{AreBelow, AreTermsBelow}
 use Rattle.pt_terms.specs.Below.{BindsBelow}
+use Rattle.pt_terms.specs.declared.meaning.Sort.{Sort}
+use Rattle.pt_terms.specs.Sorts.{IsSorted, AreSorted}
+use Rattle.pt_terms.proofs.SortLemmas.{appended-sorted}
 use Rattle.pt_terms.specs.Elaboration.{Work}
 use Rattle.pt_terms.specs.Gives.{Grows}
 
@@ -128,6 +131,37 @@ made_exists_below law v a p f g r given hf hg h lt bound b = by (contains v (var
     by true b = made_below law (node.Exists v a) p f g r given hf hg h (exists_below f given v a h lt) bound b
     by false b = same r b
 
+-- ---- sorts
+
+pub truth_sorted : (given : List Sort) (value : Bool) → IsSorted given (truth_node value)
+truth_sorted given true = tt
+truth_sorted given false = tt
+
+pub op_sorted : (given : List Sort) (o : Op) (a b : ℕ) → IsSorted given (op_node o a b)
+op_sorted given op.And a b = tt
+op_sorted given op.Or a b = tt
+op_sorted given op.Iff a b = tt
+op_sorted given op.Xor a b = tt
+
+pub made_sorted : (n : Node) (p : Position) (f g : List (Node × Position)) (r : Result ℕ FormulaFault) (given : List Sort) → AreSorted f given → IsSorted given n → Builds r f g (made n p f) → AreSorted g given
+made_sorted n p f g (Ok i) given h new b = subst (λ g. AreSorted g given) (sym (made_is n p f g i b).1) (appended-sorted given f n p h new)
+made_sorted n p f g (Err (Tracks at)) given h new b = subst (λ g. AreSorted g given) (sym b.0) h
+made_sorted n p f g (Err Nodes) given h new b = subst (λ g. AreSorted g given) (sym b.0) h
+made_sorted n p f g (Err NoMemory) given h new b = subst (λ g. AreSorted g given) (sym b) h
+
+pub made_exists_sorted : (v a : ℕ) (p : Position) (f g : List (Node × Position)) (r : Result ℕ FormulaFault) (given : List Sort) → AreSorted f given → Builds r f g (made_exists v a p f) → AreSorted g given
+made_exists_sorted v a p f g r given h b = by (contains v (variables_of f a)) b
+  where
+    same : (r : Result ℕ FormulaFault) → Builds r f g (Ok (a, f)) → AreSorted g given
+    same (Ok i) b = let pair : ◌≡◌ {A = ℕ × List (Node × Position)} (a, f) (i, g) = cc in subst (λ g. AreSorted g given) (ap (λ r. r.1) pair) h
+    same (Err (Tracks at)) b = subst (λ g. AreSorted g given) (sym b.0) h
+    same (Err Nodes) b = subst (λ g. AreSorted g given) (sym b.0) h
+    same (Err NoMemory) b = subst (λ g. AreSorted g given) (sym b) h
+
+    by : (t : Bool) → Builds r f g (if t then made (node.Exists v a) p f else Ok (a, f)) → AreSorted g given
+    by true b = made_sorted (node.Exists v a) p f g r given h tt b
+    by false b = same r b
+
 -- the law itself, from the laws of formulas
 pub slice_get-new : {X : Type 0} (xs : List X) (x : X) → slice_get (xs ++ x ∷ []) (length xs) ≡ Some x
 slice_get-new [] x = refl
@@ -187,20 +221,21 @@ appended_below f n p given hf hg h free bound nodes trees made_of = record {
 
 -- ---- growth
 
-pub made_grows : (n : Node) (p : Position) (f g : List (Node × Position)) (r : Result ℕ FormulaFault) (given : ℕ) → Builds r f g (made n p f) → Grows (record { formula = f; given = given }) (record { formula = g; given = given })
+pub made_grows : (n : Node) (p : Position) (f g : List (Node × Position)) (r : Result ℕ FormulaFault) (given : List Sort) → Builds r f g (made n p f) → Grows (record { formula = f; given = given }) (record { formula = g; given = given })
 made_grows n p f g (Ok i) given b =
     let is : g ≡ f ++ (n, p) ∷ [] = (made_is n p f g i b).1 in
-    record { nodes = ((n, p) ∷ [], is); count = rw is (omega (arith, length-append f ((n, p) ∷ []))); given = omega arith }
-made_grows n p f g (Err (Tracks at)) given b = record { nodes = ([], b.0 ∙ sym (append-nil f)); count = rw b.0 (omega arith); given = omega arith }
-made_grows n p f g (Err Nodes) given b = record { nodes = ([], b.0 ∙ sym (append-nil f)); count = rw b.0 (omega arith); given = omega arith }
-made_grows n p f g (Err NoMemory) given b = record { nodes = ([], b ∙ sym (append-nil f)); count = rw b (omega arith); given = omega arith }
+    record { nodes = ((n, p) ∷ [], is); count = rw is (omega (arith, length-append f ((n, p) ∷ []))); sorts = ([], sym (append-nil given)); given = omega arith }
+made_grows n p f g (Err (Tracks at)) given b = record { nodes = ([], b.0 ∙ sym (append-nil f)); count = rw b.0 (omega arith); sorts = ([], sym (append-nil given)); given = omega arith }
+made_grows n p f g (Err Nodes) given b = record { nodes = ([], b.0 ∙ sym (append-nil f)); count = rw b.0 (omega arith); sorts = ([], sym (append-nil given)); given = omega arith }
+made_grows n p f g (Err NoMemory) given b = record { nodes = ([], b ∙ sym (append-nil f)); count = rw b (omega arith); sorts = ([], sym (append-nil given)); given = omega arith }
 
 pub grows_same : (w : Work) → Grows w w
-grows_same w = record { nodes = ([], sym (append-nil w.formula)); count = omega arith; given = omega arith }
+grows_same w = record { nodes = ([], sym (append-nil w.formula)); count = omega arith; sorts = ([], sym (append-nil w.given)); given = omega arith }
 
 pub grows_trans : (u v w : Work) → Grows u v → Grows v w → Grows u w
 grows_trans u v w g h = record {
   nodes = (g.nodes.0 ++ h.nodes.0, h.nodes.1 ∙ ap (λ f. f ++ h.nodes.0) g.nodes.1 ∙ append_assoc u.formula g.nodes.0 h.nodes.0);
   count = omega arith;
+  sorts = (g.sorts.0 ++ h.sorts.0, h.sorts.1 ∙ ap (λ ss. ss ++ h.sorts.0) g.sorts.1 ∙ append_assoc u.given g.sorts.0 h.sorts.0);
   given = omega arith;
 }

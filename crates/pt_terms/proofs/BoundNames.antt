@@ -7,7 +7,7 @@ use Rattle.std.specs.Cmp.Lexicographic.{nat_list_eq_equiv, bytes_decides}
 use Rattle.std.proofs.lemmas.Bool.Decides.{nat_tests}
 use Rattle.std.proofs.lemmas.List.{map-append, reverse-append, length-reverse, length-map, length-drop, drop-drop, get_or_append_left, reverse-reverse}
 use Rattle.indexmap.specs.IndexSet.{insert_key}
-use Rattle.pt_terms.specs.declared.meaning.Meaning.{Meaning}
+use Rattle.pt_terms.specs.declared.meaning.Bound.{Bound}
 use Rattle.pt_terms.specs.declared.bindings.Binding.{Binding}
 use Rattle.pt_grammar.specs.Words.{Name}
 use Rattle.pt_terms.specs.Names.{find_bound}
@@ -170,7 +170,7 @@ pub find_unbound : (names : List Name) (n : ℕ) (name : Name) (bs : List Bindin
 find_unbound names n name [] l h e = refl
 find_unbound names n name (b ∷ bs) l h e = rw (h b.name l.0) (by (b.name == n) e (find_unbound names n name bs l.2 h))
   where
-    by : (t : Bool) → (if t then Some (length bs) else newest_place n bs) ≡ None → (newest_place n bs ≡ None → find_bound (map (shown_binding names) bs) name ≡ None) → (if t then Some b.meaning else find_bound (map (shown_binding names) bs) name) ≡ None
+    by : (t : Bool) → (if t then Some (length bs) else newest_place n bs) ≡ None → (newest_place n bs ≡ None → find_bound (map (shown_binding names) bs) name ≡ None) → (if t then Some b.stands_for else find_bound (map (shown_binding names) bs) name) ≡ None
     by true e rest = absurd (cc)
     by false e rest = rest e
 
@@ -188,15 +188,15 @@ slice_get-end {X = X} xs x i e = rw e (at_end xs)
 
 -- the binding at the place that is kept is the one that is found
 pub find_newest : (names : List Name) (n : ℕ) (name : Name) (bs : List Binding) (i : ℕ) → AreLinked (length names) bs → ((j : ℕ) → j < length names → bytes_eq (name_at names j) name ≡ (j == n)) → newest_place n bs ≡ Some i
-    → find_bound (map (shown_binding names) bs) name ≡ option_map (λ b. b.meaning) (slice_get (reverse bs) i)
+    → find_bound (map (shown_binding names) bs) name ≡ option_map (λ b. b.stands_for) (slice_get (reverse bs) i)
 find_newest names n name [] i l h e = absurd (cc)
 find_newest names n name (b ∷ bs) i l h e =
     rw (h b.name l.0) (by (b.name == n) e (find_newest names n name bs i l.2 h))
-    ∙ ap (λ xs. option_map (λ b. b.meaning) (slice_get xs i)) (sym (reverse-append (b ∷ []) bs))
+    ∙ ap (λ xs. option_map (λ b. b.stands_for) (slice_get xs i)) (sym (reverse-append (b ∷ []) bs))
   where
     by : (t : Bool) → (if t then Some (length bs) else newest_place n bs) ≡ Some i
-        → (newest_place n bs ≡ Some i → find_bound (map (shown_binding names) bs) name ≡ option_map (λ b. b.meaning) (slice_get (reverse bs) i))
-        → (if t then Some b.meaning else find_bound (map (shown_binding names) bs) name) ≡ option_map (λ b. b.meaning) (slice_get (reverse bs ++ b ∷ []) i)
+        → (newest_place n bs ≡ Some i → find_bound (map (shown_binding names) bs) name ≡ option_map (λ b. b.stands_for) (slice_get (reverse bs) i))
+        → (if t then Some b.stands_for else find_bound (map (shown_binding names) bs) name) ≡ option_map (λ b. b.stands_for) (slice_get (reverse bs ++ b ∷ []) i)
     by true e rest = let same : length bs ≡ i = cc in let at : i ≡ length (reverse bs) = sym same ∙ sym (length-reverse bs) in rw (slice_get-end (reverse bs) b i at) refl
     by false e rest = let lt : i < length bs = newest_within n bs i e in rw (slice_get-front (reverse bs) b i (rw (length-reverse bs) lt)) (rest e)
 
@@ -255,7 +255,7 @@ any_keys {K = K} name ks q h = sym (same ks) ∙ h
     same [] = refl
     same (x ∷ ks) = ap (λ b. bytes_eq q (name x) || b) (same ks)
 
-pub has_found : (bs : List (Name × Meaning)) (n : Name) → is_some (find_bound bs n) ≡ is_among n (map (λ b. b.0) bs)
+pub has_found : (bs : List (Name × Bound)) (n : Name) → is_some (find_bound bs n) ≡ is_among n (map (λ b. b.0) bs)
 has_found [] n = refl
 has_found (b ∷ bs) n =
     rw (eq_flip n b.0) (elim (bytes_eq b.0 n) as (λ t. is_some (if t then Some b.1 else find_bound bs n) ≡ (t || is_among n (map (λ b. b.0) bs))) [ true ↦ refl | false ↦ has_found bs n ])
@@ -285,11 +285,11 @@ truncated all self new told some le is =
     sum : length all - length self + 1 ≡ length all - length self + 1
     sum = refl
 
-pub entry_at : (names : List Name) (stack : List Binding) (i : ℕ) (b : Binding) (n : Name) → slice_get stack i ≡ Some b → name_at names b.name ≡ n → slice_get (reverse (map (shown_binding names) (reverse stack))) i ≡ Some (n, b.meaning)
+pub entry_at : (names : List Name) (stack : List Binding) (i : ℕ) (b : Binding) (n : Name) → slice_get stack i ≡ Some b → name_at names b.name ≡ n → slice_get (reverse (map (shown_binding names) (reverse stack))) i ≡ Some (n, b.stands_for)
 entry_at names stack i b n h is =
     ap (λ xs. slice_get xs i) (ap reverse (mapped_back stack) ∙ reverse-reverse (map (shown_binding names) stack))
     ∙ get-map (shown_binding names) stack i b h
-    ∙ ap (λ m. Some (m, b.meaning)) is
+    ∙ ap (λ m. Some (m, b.stands_for)) is
   where
     mapped_back : (bs : List Binding) → map (shown_binding names) (reverse bs) ≡ reverse (map (shown_binding names) bs)
     mapped_back [] = refl

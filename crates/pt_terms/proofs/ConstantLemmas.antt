@@ -9,8 +9,8 @@ constant-length : (s : Symbol) → length (constant_in s s.stands_for) ≡ const
 constant-length s = by-use s.stands_for
   where
     by-use : (u : Use) → length (constant_in s u) ≡ constant_count u
-    by-use (Constant_of v) = refl
-    by-use (Defined ps m) = refl
+    by-use (Constant_of v t) = refl
+    by-use (Defined ps ss m) = refl
 
 take-join : {X : Type 0} (xs ys : List X) (m n : ℕ) → m ≡ length xs + n → take m (xs ++ ys) ≡ xs ++ take n ys
 take-join [] ys m n e = let same : m ≡ n = omega arith in ap (λ k. take k ys) same

@@ -1,5 +1,5 @@
 -- How many variable numbers a term gives out: at most one for each leaf and each list that stands in it.
-use Rattle.std.proofs.Common.{◌≡◌, ℕ, zero, suc, ◌+◌, ◌≤◌, ◌^◌, Bool, true, false, not, ◌||◌, ◌==◌, if◌then◌else◌, List, [], ◌∷◌, map, arith, Option, Some, None}
+use Rattle.std.proofs.Common.{ℕ, zero, suc, ◌+◌, ◌≤◌, ◌^◌, Bool, true, false, not, ◌||◌, ◌==◌, if◌then◌else◌, List, [], ◌∷◌, map, arith, Option, Some, None}
 use Rattle.std.specs.Prelude.{pos, nat_lt, bytes_eq, codes, sum_by}
 use Rattle.std.proofs.lemmas.List.Sums.{sum_by-cons, sum_by-le-sum_by}
 use Rattle.pt_formula.specs.declared.node.Node.TheVariants as node
@@ -19,8 +19,13 @@ use Rattle.pt_grammar.specs.Exprs.{place_of, symbol_of, numeral_of, items_of, it
 use Rattle.pt_grammar.specs.Forms.{let_fault, quantifier_fault, annotation_fault}
 use Rattle.pt_terms.specs.declared.meaning.Meaning.{Meaning}
 use Rattle.pt_terms.specs.declared.meaning.Meaning.TheVariants.{Int, Bool as Truth}
+use Rattle.pt_terms.specs.declared.meaning.Sort.{Sort as VariableSort}
+use Rattle.pt_terms.specs.declared.meaning.Sort.TheVariants as sort
+use Rattle.pt_terms.specs.declared.meaning.Bound.{Bound}
+use Rattle.pt_terms.specs.declared.meaning.Bound.TheVariants.{Term as Standing}
 use Rattle.pt_terms.specs.Elaboration.{Elab, give, refuse, ◌>>=◌, require, make, make_exists, fresh, each, constant_form, variable_form}
-use Rattle.pt_terms.specs.Names.{Env, Use, Constant_of, Defined, bind, look_up, plain_use, head_use}
+use Rattle.pt_terms.specs.Names.{Env, Use, Constant_of, Defined, bind, look_up, variable_term, plain_use, head_use}
+use Rattle.pt_terms.specs.Sorts.{truth_atom}
 use Rattle.pt_terms.specs.Theory
 use Rattle.pt_terms.specs.Theory.{Argument}
 use Rattle.pt_terms.specs.Terms
@@ -70,47 +75,52 @@ second-layer : (n : ℕ) (p q : Position) (a b : SExpr) → size_within n b ≤ 
 second-layer n p q a b =
     let is : size_within n b ≤ 1 + sum_by (size_within n) (a ∷ b ∷ []) = omega (arith, sum_by-cons (size_within n) a (b ∷ []), sum_by-cons (size_within n) b []) in is
 
-adds-bound : (n : ℕ) (term : SExpr → Elab Meaning) → ((e : SExpr) → AddsAtMost (size_within n e) (term e)) → (taken : List Name) (a b : SExpr) → AddsAtMost {A = Name × Meaning} (size_within n b) (Terms.bindable taken a >>= λ name. term b >>= λ m. give (name, m))
+adds-bound : (n : ℕ) (term : SExpr → Elab Meaning) → ((e : SExpr) → AddsAtMost (size_within n e) (term e)) → (taken : List Name) (a b : SExpr) → AddsAtMost {A = Name × Bound} (size_within n b) (Terms.bindable taken a >>= λ name. term b >>= λ m. give (name, Standing m))
 adds-bound n term h taken a b =
-    adds-on (size_within n b) (Terms.bindable taken a) (λ name. term b >>= λ m. give (name, m)) (adds-bindable taken a)
-    (λ name. adds-more (size_within n b + 0) (size_within n b) (term b >>= λ m. give (name, m)) (omega arith) (adds-then (size_within n b) 0 (term b) (λ m. give (name, m)) (h b) (λ m. adds-give 0 (name, m))))
+    adds-on (size_within n b) (Terms.bindable taken a) (λ name. term b >>= λ m. give (name, Standing m)) (adds-bindable taken a)
+    (λ name. adds-more (size_within n b + 0) (size_within n b) (term b >>= λ m. give (name, Standing m)) (omega arith) (adds-then (size_within n b) 0 (term b) (λ m. give (name, Standing m)) (h b) (λ m. adds-give 0 (name, Standing m))))
 
-adds-binding-layer : (n : ℕ) (term : SExpr → Elab Meaning) → ((e : SExpr) → AddsAtMost (size_within n e) (term e)) → (taken : List Name) (p : Position) (l : SExpr-F SExpr) → AddsAtMost {A = Name × Meaning} (layer_size (size_within n) l) (Terms.with_pair (items_of_layer l) p (λ s t. Terms.bindable taken s >>= λ name. term t >>= λ m. give (name, m)))
+adds-binding-layer : (n : ℕ) (term : SExpr → Elab Meaning) → ((e : SExpr) → AddsAtMost (size_within n e) (term e)) → (taken : List Name) (p : Position) (l : SExpr-F SExpr) → AddsAtMost {A = Name × Bound} (layer_size (size_within n) l) (Terms.with_pair (items_of_layer l) p (λ s t. Terms.bindable taken s >>= λ name. term t >>= λ m. give (name, Standing m)))
 adds-binding-layer n term h taken p (layer.Leaf leaf q) = adds-refuse 1 Syntax p
 adds-binding-layer n term h taken p (layer.List [] q) = adds-refuse (layer_size (size_within n) (layer.List [] q)) Syntax p
 adds-binding-layer n term h taken p (layer.List (a ∷ []) q) = adds-refuse (layer_size (size_within n) (layer.List (a ∷ []) q)) Syntax p
 adds-binding-layer n term h taken p (layer.List (a ∷ b ∷ []) q) =
-    adds-more (size_within n b) (layer_size (size_within n) (layer.List (a ∷ b ∷ []) q)) (Terms.bindable taken a >>= λ name. term b >>= λ m. give (name, m)) (second-layer n p q a b) (adds-bound n term h taken a b)
+    adds-more (size_within n b) (layer_size (size_within n) (layer.List (a ∷ b ∷ []) q)) (Terms.bindable taken a >>= λ name. term b >>= λ m. give (name, Standing m)) (second-layer n p q a b) (adds-bound n term h taken a b)
 adds-binding-layer n term h taken p (layer.List (a ∷ b ∷ c ∷ more) q) = adds-refuse (layer_size (size_within n) (layer.List (a ∷ b ∷ c ∷ more) q)) Syntax p
 
-adds-bindings : (n : ℕ) (term : SExpr → Elab Meaning) → ((e : SExpr) → AddsAtMost (size_within n e) (term e)) → (done : List (Name × Meaning)) (es : List SExpr) → AddsAtMost (sum_by (size_within (suc n)) es) (Terms.bindings term done es)
+adds-bindings : (n : ℕ) (term : SExpr → Elab Meaning) → ((e : SExpr) → AddsAtMost (size_within n e) (term e)) → (done : List (Name × Bound)) (es : List SExpr) → AddsAtMost (sum_by (size_within (suc n)) es) (Terms.bindings term done es)
 adds-bindings n term h done [] = adds-give 0 done
 adds-bindings n term h done (e ∷ es) =
     adds-more (size_within (suc n) e + sum_by (size_within (suc n)) es) (sum_by (size_within (suc n)) (e ∷ es)) (Terms.bindings term done (e ∷ es)) (omega (arith, sum_by-cons (size_within (suc n)) e es))
     (adds-then (size_within (suc n) e) (sum_by (size_within (suc n)) es) (Terms.binding term (map (λ b. b.0) done) e) (λ b. Terms.bindings term (b ∷ done) es)
     (adds-binding-layer n term h (map (λ b. b.0) done) (place_of e) (out-SExpr e)) (λ b. adds-bindings n term h (b ∷ done) es))
 
-pub adds-int-sort : (e : SExpr) → AddsAtMost 0 (Terms.int_sort e)
-adds-int-sort e = adds-require 0 (bytes_eq (name_of (symbol_of e)) (codes "Int")) Unsupported (place_of e)
+pub adds-named-sort : (e : SExpr) → AddsAtMost 0 (Terms.named_sort e)
+adds-named-sort e = by-name (bytes_eq (name_of (symbol_of e)) (codes "Int")) (bytes_eq (name_of (symbol_of e)) (codes "Bool"))
+  where
+    by-name : (a b : Bool) → AddsAtMost 0 (if a then give sort.Int else if b then give sort.Bool else refuse Unsupported (place_of e))
+    by-name true b = adds-give 0 sort.Int
+    by-name false true = adds-give 0 sort.Bool
+    by-name false false = adds-refuse 0 Unsupported (place_of e)
 
 pub adds-variable : (taken : List Name) (e : SExpr) → AddsAtMost 1 (Terms.variable taken e)
 adds-variable taken e =
-    adds-with-pair 1 (items_of e) (place_of e) (λ s sort. Terms.bindable taken s >>= λ name. Terms.int_sort sort >>= λ _. fresh >>= λ v. give (name, v))
-    (λ s sort. adds-on 1 (Terms.bindable taken s) (λ name. Terms.int_sort sort >>= λ _. fresh >>= λ v. give (name, v)) (adds-bindable taken s)
-    (λ name. adds-on 1 (Terms.int_sort sort) (λ _. fresh >>= λ v. give (name, v)) (adds-int-sort sort)
-    (λ _. adds-then 1 0 fresh (λ v. give (name, v)) adds-fresh (λ v. adds-give 0 (name, v)))))
+    adds-with-pair 1 (items_of e) (place_of e) (λ s t. Terms.bindable taken s >>= λ name. Terms.named_sort t >>= λ x. fresh x >>= λ v. give (name, v, x))
+    (λ s t. adds-on 1 (Terms.bindable taken s) (λ name. Terms.named_sort t >>= λ x. fresh x >>= λ v. give (name, v, x)) (adds-bindable taken s)
+    (λ name. adds-on 1 (Terms.named_sort t) (λ x. fresh x >>= λ v. give (name, v, x)) (adds-named-sort t)
+    (λ x. adds-then 1 0 (fresh x) (λ v. give (name, v, x)) (adds-fresh x) (λ v. adds-give 0 (name, v, x)))))
 
-adds-variables : (n : ℕ) (done : List (Name × ℕ)) (es : List SExpr) → AddsAtMost (sum_by (size_within n) es) (Terms.variables done es)
+adds-variables : (n : ℕ) (done : List (Name × ℕ × VariableSort)) (es : List SExpr) → AddsAtMost (sum_by (size_within n) es) (Terms.variables done es)
 adds-variables n done [] = adds-give 0 done
 adds-variables n done (e ∷ es) =
     adds-more (1 + sum_by (size_within n) es) (sum_by (size_within n) (e ∷ es)) (Terms.variables done (e ∷ es)) (omega (arith, sum_by-cons (size_within n) e es, some-size n e))
     (adds-then 1 (sum_by (size_within n) es) (Terms.variable [] e) (λ x. Terms.variables (x ∷ done) es) (adds-variable [] e) (λ x. adds-variables n (x ∷ done) es))
 
-adds-exists-all : (p : Position) (xs : List (Name × ℕ)) (a : ℕ) → AddsAtMost 0 (Terms.exists_all p xs a)
+adds-exists-all : (p : Position) (xs : List (Name × ℕ × VariableSort)) (a : ℕ) → AddsAtMost 0 (Terms.exists_all p xs a)
 adds-exists-all p [] a = adds-give 0 a
 adds-exists-all p (x ∷ xs) a = adds-on 0 (make_exists x.1 a p) (λ b. Terms.exists_all p xs b) (adds-make-exists x.1 a p) (λ b. adds-exists-all p xs b)
 
-adds-quantified : (is_exists : Bool) (p : Position) (xs : List (Name × ℕ)) (a : ℕ) → AddsAtMost 0 (Terms.quantified is_exists p xs a)
+adds-quantified : (is_exists : Bool) (p : Position) (xs : List (Name × ℕ × VariableSort)) (a : ℕ) → AddsAtMost 0 (Terms.quantified is_exists p xs a)
 adds-quantified true p xs a = adds-exists-all p xs a
 adds-quantified false p xs a =
     adds-on 0 (make (node.Not a) p) (λ b. Terms.exists_all p xs b >>= λ c. make (node.Not c) p) (adds-make (node.Not a) p)
@@ -126,17 +136,21 @@ pub adds-numeral : (p : Position) (digits : List ℕ) → AddsAtMost 0 (Terms.nu
 adds-numeral p digits =
     adds-on 0 (require (nat_lt (numeral_value digits) (2 ^ 63)) Coefficient p) (λ _. give (numeral_value digits)) (adds-require 0 (nat_lt (numeral_value digits) (2 ^ 63)) Coefficient p) (λ _. adds-give 0 (numeral_value digits))
 
+adds-variable-term : (p : Position) (v : ℕ) (s : VariableSort) → AddsAtMost 0 (variable_term p v s)
+adds-variable-term p v sort.Int = adds-give 0 (Int (variable_form v))
+adds-variable-term p v sort.Bool = adds-on 0 (make (truth_atom v) p) (λ i. give (Truth i)) (adds-make (truth_atom v) p) (λ i. adds-give 0 (Truth i))
+
 adds-plain-use : (p : Position) (u : Option Use) → AddsAtMost 0 (plain_use p u)
 adds-plain-use p None = adds-refuse 0 Unknown p
-adds-plain-use p (Some (Constant_of v)) = adds-give 0 (Int (variable_form v))
-adds-plain-use p (Some (Defined [] m)) = adds-give 0 m
-adds-plain-use p (Some (Defined (v ∷ vs) m)) = adds-refuse 0 Sort p
+adds-plain-use p (Some (Constant_of v s)) = adds-variable-term p v s
+adds-plain-use p (Some (Defined [] ss m)) = adds-give 0 m
+adds-plain-use p (Some (Defined (v ∷ vs) ss m)) = adds-refuse 0 Sort p
 
 adds-head-use : (p : Position) (u : Option Use) → AddsAtMost 0 (head_use p u)
 adds-head-use p None = adds-refuse 0 Unknown p
-adds-head-use p (Some (Constant_of v)) = adds-refuse 0 Sort p
-adds-head-use p (Some (Defined [] m)) = adds-refuse 0 Sort p
-adds-head-use p (Some (Defined (v ∷ vs) m)) = adds-give 0 (v ∷ vs, m)
+adds-head-use p (Some (Constant_of v s)) = adds-refuse 0 Sort p
+adds-head-use p (Some (Defined [] ss m)) = adds-refuse 0 Sort p
+adds-head-use p (Some (Defined (v ∷ vs) ss m)) = adds-give 0 (v ∷ vs, ss, m)
 
 adds-leaf : (env : Env) (p : Position) (leaf : Leaf) → AddsAtMost 0 (Terms.leaf_term env p leaf)
 adds-leaf env p (Numeral digits) = adds-on 0 (Terms.numeral p digits) (λ k. give (Int (constant_form (pos k)))) (adds-numeral p digits) (λ k. adds-give 0 (Int (constant_form (pos k))))

@@ -3,7 +3,6 @@ use Rattle.std.proofs.Common.{◌≡◌, ◌⊎◌, inl, inr, ℕ, zero, suc, �
 use Rattle.std.proofs.lemmas.Bool.Decides.{nat_tests}
 use Rattle.std.specs.Prelude.{Ok, Err, Some, None, slice_get, ⊤}
 use Rattle.std.specs.List.{AllByRecursion}
-use Rattle.pt_sets.specs.Elements.{ContainsByRecursion}
 use Rattle.pt_formula.specs.declared.node.Node.{Node}
 use Rattle.pt_formula.specs.declared.node.Node.TheVariants as node
 use Rattle.pt_formula.specs.declared.node.Position.{Position}
@@ -11,7 +10,8 @@ use Rattle.pt_formula.specs.declared.TheConstants.{MAX_TRACKS, MAX_NODES}
 use Rattle.pt_formula.specs.declared.fault.FormulaFault.TheVariants as fault
 use Rattle.pt_formula.specs.Forms.{Term}
 use Rattle.pt_formula.specs.Truth.{insert_var, union, without, free_variables}
-use Rattle.pt_formula.specs.Formulas.{node_at, children, entry_node, node_tree, tree_of, variables_of, made, contains}
+use Rattle.pt_formula.specs.Formulas.{node_at, entry_node, node_tree, tree_of, variables_of, made, contains}
+use Rattle.pt_terms.specs.declared.meaning.Sort.{Sort as VariableSort}
 use Rattle.pt_terms.specs.Elaboration.{Work, built, make, make_exists}
 use Rattle.pt_terms.proofs.FreeSteps.{front-same, Good}
 use Rattle.pt_terms.specs.Free.{Nodes, IsFront, Grown, BindsIn, IsWhole, FreeIn, NodeIn}
@@ -112,9 +112,9 @@ good-made F V Q whole w w' i n p e =
         let pair : (length w.formula, record { formula = w.formula ++ (n, p) ∷ []; given = w.given }) ≡ (i, w') = cc in
         let what : length w.formula ≡ i = ap (λ (q : ℕ × Work). q.0) pair in
         let here : w.formula ++ (n, p) ∷ [] ≡ w'.formula = ap (λ (q : ℕ × Work). q.1.formula) pair in
-        let given : w.given ≡ w'.given = ap (λ (q : ℕ × Work). q.1.given) pair in
+        let given : length w.given ≡ length w'.given = ap (λ (q : ℕ × Work). length q.1.given) pair in
         let size : length w'.formula ≡ length w.formula + 1 = sym (ap (λ (f : Nodes). length f) here) ∙ length-append w.formula ((n, p) ∷ []) in (
-          record { front = ((n, p) ∷ [], sym here); given = omega (arith, given) },
+          record { front = ((n, p) ∷ [], sym here); sorts = subst (λ ss. (more : List VariableSort) × (ss ≡ w.given ++ more)) (ap (λ (q : ℕ × Work). q.1.given) pair) (front-same w.given); given = omega (arith, given) },
           λ parts front binds.
               let front' : IsFront (w.formula ++ (n, p) ∷ []) F = subst (λ f. IsFront f F) (sym here) front in
               let new : node_at F (length w.formula) ≡ n = node-behind w.formula F n p front' in (
@@ -147,7 +147,7 @@ pub good-exists : (F : Nodes) (V Q C : ℕ → Type 0) → IsWhole F → (v a : 
 good-exists F V Q C whole v a p h w w' i e = through (contains v (variables_of w.formula a)) refl e
   where
     through : (b : Bool) → contains v (variables_of w.formula a) ≡ b → built w.given p (if b then made (node.Exists v a) p w.formula else Ok (a, w.formula)) ≡ Ok (i, w')
-        → Grown w w' × (C (length w.formula) → IsFront w'.formula F → ((u : ℕ) → w.given ≤ u → u < w'.given → Q u) → BindsIn Q F (length w.formula) → BindsIn Q F (length w'.formula) × NodeIn V F i (length w'.formula))
+        → Grown w w' × (C (length w.formula) → IsFront w'.formula F → ((u : ℕ) → length w.given ≤ u → u < length w'.given → Q u) → BindsIn Q F (length w.formula) → BindsIn Q F (length w'.formula) × NodeIn V F i (length w'.formula))
     through true t k =
         let r = good-made F V Q whole w w' i (node.Exists v a) p k in
         (r.0, λ c front fresh binds. let known = h (length w.formula) c in r.1 (known.0.1, known.1) front binds)
@@ -155,8 +155,8 @@ good-exists F V Q C whole v a p h w w' i e = through (contains v (variables_of w
         let pair : (a, record { formula = w.formula; given = w.given }) ≡ (i, w') = cc in
         let what : a ≡ i = ap (λ (q : ℕ × Work). q.0) pair in
         let here : w.formula ≡ w'.formula = ap (λ (q : ℕ × Work). q.1.formula) pair in
-        let given : w.given ≡ w'.given = ap (λ (q : ℕ × Work). q.1.given) pair in (
-          record { front = subst (IsFront w.formula) here (front-same w.formula); given = omega (arith, given) },
+        let given : length w.given ≡ length w'.given = ap (λ (q : ℕ × Work). length q.1.given) pair in (
+          record { front = subst (IsFront w.formula) here (front-same w.formula); sorts = subst (λ ss. (more : List VariableSort) × (ss ≡ w.given ++ more)) (ap (λ (q : ℕ × Work). q.1.given) pair) (front-same w.given); given = omega (arith, given) },
           λ c front fresh binds.
               let known = h (length w.formula) c in
               let same : variables_of F a ≡ variables_of w.formula a = whole.fronts w.formula (front-of front here).0 a (front-of front here).1 known.0.0 in (

@@ -2,19 +2,20 @@
 use Rattle.std.proofs.Common.{◌≡◌, ℕ, ◌+◌, ◌<◌, ◌≤◌, List, [], ◌∷◌, ◌++◌, length, arith, refl, sym, ap, subst, ◌∙◌, append_assoc, append-nil, length-append}
 use Rattle.std.specs.Prelude.{Result, Ok, Err, Bool, true, false}
 use Rattle.std.specs.List.{AllByRecursion}
-use Rattle.pt_formula.specs.declared.node.Node.{Node}
-use Rattle.pt_formula.specs.declared.node.Node.TheVariants as node
 use Rattle.pt_formula.specs.declared.node.Position.{Position}
-use Rattle.pt_formula.specs.Formulas.{node_at}
 use Rattle.pt_syntax.specs.declared.kinds.ReadKind.{ReadKind}
 use Rattle.pt_syntax.specs.declared.kinds.ReadRefusal.{ReadRefusal}
+use Rattle.pt_terms.specs.declared.meaning.Sort.{Sort as VariableSort}
 use Rattle.pt_terms.specs.Elaboration.{Work, Elab, give, refuse, follow, ◌>>=◌, require, fresh, each}
 use Rattle.pt_terms.specs.Free.{Nodes, IsFront, Grown, BindsIn}
 
-pub front-trans : (f g h : Nodes) → IsFront f g → IsFront g h → IsFront f h
+abbrev Prefix : {A : Type 0} → List A → List A → Type 0
+Prefix {A} f g = (more : List A) × (g ≡ f ++ more)
+
+pub front-trans : {A : Type 0} (f g h : List A) → Prefix f g → Prefix g h → Prefix f h
 front-trans f g h a b = (a.0 ++ b.0, b.1 ∙ ap (λ x. x ++ b.0) a.1 ∙ append_assoc f a.0 b.0)
 
-pub front-same : (f : Nodes) → IsFront f f
+pub front-same : {A : Type 0} (f : List A) → Prefix f f
 front-same f = ([], sym (append-nil f))
 
 pub front-length : (f g : Nodes) → IsFront f g → length f ≤ length g
@@ -24,7 +25,7 @@ front-length f g a = omega (arith, length-append f a.0, ap length a.1)
 abbrev pub Good : {A : Type 0} → Nodes → (ℕ → Type 0) → (ℕ → Type 0) → (A → ℕ → Type 0) → Elab A → Type 0
 Good {A} F Q C P m =
     (w w' : Work) (x : A) → m w ≡ Ok (x, w') → Grown w w'
-    × (C (length w.formula) → IsFront w'.formula F → ((v : ℕ) → w.given ≤ v → v < w'.given → Q v) → BindsIn Q F (length w.formula) → BindsIn Q F (length w'.formula) × P x (length w'.formula))
+    × (C (length w.formula) → IsFront w'.formula F → ((v : ℕ) → length w.given ≤ v → v < length w'.given → Q v) → BindsIn Q F (length w.formula) → BindsIn Q F (length w'.formula) × P x (length w'.formula))
 
 -- what holds at a length holds at greater ones
 abbrev pub Lasts : (ℕ → Type 0) → Type 0
@@ -35,7 +36,7 @@ good-give {A} F Q C P a h w w' x e =
     let pair : (a, w) ≡ (x, w') = cc in
     let here : w' ≡ w = sym (ap (λ (q : A × Work). q.1) pair) in
     let what : a ≡ x = ap (λ (q : A × Work). q.0) pair in (
-      subst (Grown w) (sym here) (record { front = front-same w.formula; given = omega arith }),
+      subst (Grown w) (sym here) (record { front = front-same w.formula; sorts = front-same w.given; given = omega arith }),
       λ c front fresh binds. (subst (λ (u : Work). BindsIn Q F (length u.formula)) (sym here) binds, subst (λ (u : Work). P x (length u.formula)) (sym here) (subst (λ y. P y (length w.formula)) what (h (length w.formula) c))),
     )
 
@@ -46,12 +47,12 @@ good-refuse F Q C P kind p w w' x e = absurd cc
 pub good-then : {A B : Type 0} (F : Nodes) (Q C D : ℕ → Type 0) (P : A → ℕ → Type 0) (R : B → ℕ → Type 0) (m : Elab A) (f : A → Elab B) → Lasts D → ((n : ℕ) → C n → D n) → Good F Q C P m → ((x : A) → Good F Q (λ n. D n × P x n) R (f x)) → Good F Q C R (m >>= f)
 good-then {A} {B} F Q C D P R m f lasts keep first second w w'' y e = through (m w) refl e
   where
-    through : (r : Result (A × Work) ReadRefusal) → m w ≡ r → follow r f ≡ Ok (y, w'') → Grown w w'' × (C (length w.formula) → IsFront w''.formula F → ((v : ℕ) → w.given ≤ v → v < w''.given → Q v) → BindsIn Q F (length w.formula) → BindsIn Q F (length w''.formula) × R y (length w''.formula))
+    through : (r : Result (A × Work) ReadRefusal) → m w ≡ r → follow r f ≡ Ok (y, w'') → Grown w w'' × (C (length w.formula) → IsFront w''.formula F → ((v : ℕ) → length w.given ≤ v → v < length w''.given → Q v) → BindsIn Q F (length w.formula) → BindsIn Q F (length w''.formula) × R y (length w''.formula))
     through (Err refusal) p q = absurd cc
     through (Ok (x, w')) p q =
         let one = first w w' x p in
         let two = second x w' w'' y q in (
-          record { front = front-trans w.formula w'.formula w''.formula one.0.front two.0.front; given = omega (arith, one.0.given, two.0.given) },
+          record { front = front-trans w.formula w'.formula w''.formula one.0.front two.0.front; sorts = front-trans w.given w'.given w''.given one.0.sorts two.0.sorts; given = omega (arith, one.0.given, two.0.given) },
           λ c front fresh binds.
               let middle = one.1 c (front-trans w'.formula w''.formula F two.0.front front) (λ v le lt. fresh v le (omega (arith, two.0.given, lt))) binds in
               two.1 (lasts (length w.formula) (length w'.formula) (front-length w.formula w'.formula one.0.front) (keep (length w.formula) c), middle.1) front (λ v le lt. fresh v (omega (arith, one.0.given, le)) lt) middle.0,
@@ -68,14 +69,14 @@ good-require F Q C true kind p = good-give F Q C (λ _ n. true ≡ true) tt (λ 
 good-require F Q C false kind p = good-refuse F Q C (λ _ n. false ≡ true) kind p
 
 -- a new variable may be bound
-pub good-fresh : (F : Nodes) (Q C : ℕ → Type 0) → Good F Q C (λ v n. Q v) fresh
-good-fresh F Q C w w' x e =
-    let pair : (w.given, record { formula = w.formula; given = w.given + 1 }) ≡ (x, w') = cc in
+pub good-fresh : (F : Nodes) (Q C : ℕ → Type 0) (s : VariableSort) → Good F Q C (λ v n. Q v) (fresh s)
+good-fresh F Q C s w w' x e =
+    let pair : ◌≡◌ {A = ℕ × Work} (length w.given, record { formula = w.formula; given = w.given ++ s ∷ [] }) (x, w') = cc in
     let here : w'.formula ≡ w.formula = sym (ap (λ (q : ℕ × Work). q.1.formula) pair) in
-    let next : w'.given ≡ w.given + 1 = sym (ap (λ (q : ℕ × Work). q.1.given) pair) in
-    let what : w.given ≡ x = ap (λ (q : ℕ × Work). q.0) pair in (
-      record { front = subst (IsFront w.formula) (sym here) (front-same w.formula); given = omega (arith, next) },
-      λ c front fresh binds. (subst (λ (f : Nodes). BindsIn Q F (length f)) (sym here) binds, subst Q what (fresh w.given (omega arith) (omega (arith, next)))),
+    let next : length w'.given ≡ length w.given + 1 = sym (ap (λ (q : ℕ × Work). length q.1.given) pair) ∙ length-append w.given (s ∷ []) in
+    let what : length w.given ≡ x = ap (λ (q : ℕ × Work). q.0) pair in (
+      record { front = subst (IsFront w.formula) (sym here) (front-same w.formula); sorts = (s ∷ [], sym (ap (λ (q : ℕ × Work). q.1.given) pair)); given = omega (arith, next) },
+      λ c front fresh binds. (subst (λ (f : Nodes). BindsIn Q F (length f)) (sym here) binds, subst Q what (fresh (length w.given) (omega arith) (omega (arith, next)))),
     )
 
 -- one step for each, in order

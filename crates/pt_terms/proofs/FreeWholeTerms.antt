@@ -15,13 +15,18 @@ use Rattle.pt_syntax.specs.declared.kinds.ReadKind.TheVariants.{Syntax, Unknown,
 use Rattle.pt_syntax.specs.Bytes.{numeral_value}
 use Rattle.pt_terms.specs.declared.meaning.Meaning.{Meaning}
 use Rattle.pt_terms.specs.declared.meaning.Meaning.TheVariants.{Int, Bool as Truth}
+use Rattle.pt_terms.specs.declared.meaning.Sort.{Sort as VariableSort}
+use Rattle.pt_terms.specs.declared.meaning.Sort.TheVariants as sort
+use Rattle.pt_terms.specs.declared.meaning.Bound.{Bound}
+use Rattle.pt_terms.specs.declared.meaning.Bound.TheVariants.{Variable, Term as Standing}
 use Rattle.pt_terms.specs.Elaboration.{Elab, give, refuse, ◌>>=◌, require, make, make_exists, fresh, each, constant_form, variable_form}
 use Rattle.pt_grammar.specs.Words.{Name}
 use Rattle.pt_terms.specs.Names.{Use, Constant_of, Defined, Symbol as LiveSymbol, find_symbol}
 use Rattle.pt_grammar.specs.declared.words.Head.TheVariants as word
 use Rattle.pt_grammar.specs.declared.words.Head.{Head}
 use Rattle.pt_grammar.specs.Exprs
-use Rattle.pt_terms.specs.Names.{Env, bind, look_up, use_of, find_bound, plain_use, head_use}
+use Rattle.pt_terms.specs.Names.{Env, bind, look_up, use_of, find_bound, variable_term, plain_use, head_use}
+use Rattle.pt_terms.specs.Sorts.{truth_atom}
 use Rattle.pt_grammar.specs.Words.{head_of, is_reserved, is_among}
 use Rattle.pt_grammar.specs.Exprs.{place_of, symbol_of, items_of}
 use Rattle.pt_terms.specs.Theory
@@ -32,22 +37,30 @@ use Rattle.pt_terms.proofs.FreeSteps.{Good, Lasts, good-give, good-refuse, good-
 use Rattle.pt_terms.proofs.FreeNodes.{good-make, good-exists}
 use Rattle.pt_terms.proofs.FreeTerms.{ArgumentIn, ArgumentsIn, meaning-lasts, all-last, good-as-truth}
 use Rattle.pt_terms.proofs.FreeApplications.{good-apply, good-divides}
-use Rattle.pt_terms.proofs.FreeCopies.{meaning-wider, good-call}
-use Rattle.pt_terms.specs.Free.{Nodes, IsWhole, NodeIn, MeaningIn, UseIn, EnvIn}
+use Rattle.pt_terms.proofs.FreeCopies.{DefinitionIn, definition-lasts, meaning-wider, good-call}
+use Rattle.pt_terms.specs.Free.{Nodes, IsWhole, NodeIn, MeaningIn, BoundIn, UseIn, EnvIn}
 
 pub use-lasts : (V : ℕ → Type 0) (F : Nodes) (u : Use) → Lasts (UseIn V F u)
-use-lasts V F (Constant_of v) n n' le h = h
-use-lasts V F (Defined ps m) n n' le h = meaning-lasts (λ v. V v ⊎ ContainsByRecursion v ps) F m n n' le h
+use-lasts V F (Constant_of v s) n n' le h = h
+use-lasts V F (Defined ps ss m) n n' le h = (h.0, meaning-lasts (λ v. V v ⊎ ContainsByRecursion v ps) F m n n' le h.1)
+
+bound-lasts : (V : ℕ → Type 0) (F : Nodes) (b : Bound) → Lasts (BoundIn V F b)
+bound-lasts V F (Variable v s) n n' le h = h
+bound-lasts V F (Standing m) n n' le h = meaning-lasts V F m n n' le h
 
 pub env-lasts : (V : ℕ → Type 0) (F : Nodes) (env : Env) → Lasts (EnvIn V F env)
 env-lasts V F env n n' le h = record {
-  bound = all-last (λ (b : Name × Meaning) k. MeaningIn V F b.1 k) (λ b. meaning-lasts V F b.1) env.bound n n' le h.bound;
+  bound = all-last (λ (b : Name × Bound) k. BoundIn V F b.1 k) (λ b. bound-lasts V F b.1) env.bound n n' le h.bound;
   live = all-last (λ (s : LiveSymbol) k. UseIn V F s.stands_for k) (λ s. use-lasts V F s.stands_for) env.live n n' le h.live;
 }
 
 use-wider : (V W : ℕ → Type 0) (F : Nodes) (u : Use) (n : ℕ) → ((v : ℕ) → V v → W v) → UseIn V F u n → UseIn W F u n
-use-wider V W F (Constant_of v) n wider h = wider v h
-use-wider V W F (Defined ps m) n wider h = meaning-wider (λ v. V v ⊎ ContainsByRecursion v ps) (λ v. W v ⊎ ContainsByRecursion v ps) F m n (λ v k. elim k [ inl x ↦ inl (wider v x) | inr x ↦ inr x ]) h
+use-wider V W F (Constant_of v s) n wider h = wider v h
+use-wider V W F (Defined ps ss m) n wider h = (h.0, meaning-wider (λ v. V v ⊎ ContainsByRecursion v ps) (λ v. W v ⊎ ContainsByRecursion v ps) F m n (λ v k. elim k [ inl x ↦ inl (wider v x) | inr x ↦ inr x ]) h.1)
+
+bound-wider : (V W : ℕ → Type 0) (F : Nodes) (b : Bound) (n : ℕ) → ((v : ℕ) → V v → W v) → BoundIn V F b n → BoundIn W F b n
+bound-wider V W F (Variable v s) n wider h = wider v h
+bound-wider V W F (Standing m) n wider h = meaning-wider V W F m n wider h
 
 all-wider : {A : Type 0} (P R : A → Type 0) (xs : List A) → ((x : A) → P x → R x) → AllByRecursion P xs → AllByRecursion R xs
 all-wider P R [] f h = tt
@@ -55,7 +68,7 @@ all-wider P R (x ∷ xs) f h = (f x h.0, all-wider P R xs f h.1)
 
 pub env-wider : (V W : ℕ → Type 0) (F : Nodes) (env : Env) (n : ℕ) → ((v : ℕ) → V v → W v) → EnvIn V F env n → EnvIn W F env n
 env-wider V W F env n wider h = record {
-  bound = all-wider (λ (b : Name × Meaning). MeaningIn V F b.1 n) (λ (b : Name × Meaning). MeaningIn W F b.1 n) env.bound (λ b. meaning-wider V W F b.1 n wider) h.bound;
+  bound = all-wider (λ (b : Name × Bound). BoundIn V F b.1 n) (λ (b : Name × Bound). BoundIn W F b.1 n) env.bound (λ b. bound-wider V W F b.1 n wider) h.bound;
   live = all-wider (λ (s : LiveSymbol). UseIn V F s.stands_for n) (λ (s : LiveSymbol). UseIn W F s.stands_for n) env.live (λ s. use-wider V W F s.stands_for n wider) h.live;
 }
 
@@ -63,14 +76,14 @@ all-join : {A : Type 0} (P : A → Type 0) (xs ys : List A) → AllByRecursion P
 all-join P [] ys h k = k
 all-join P (x ∷ xs) ys h k = (h.0, all-join P xs ys h.1 k)
 
-abbrev pub BindingsIn : (ℕ → Type 0) → Nodes → List (Name × Meaning) → ℕ → Type 0
-BindingsIn V F bs n = AllByRecursion (λ (b : Name × Meaning). MeaningIn V F b.1 n) bs
+abbrev pub BindingsIn : (ℕ → Type 0) → Nodes → List (Name × Bound) → ℕ → Type 0
+BindingsIn V F bs n = AllByRecursion (λ (b : Name × Bound). BoundIn V F b.1 n) bs
 
-bindings-last : (V : ℕ → Type 0) (F : Nodes) (bs : List (Name × Meaning)) → Lasts (BindingsIn V F bs)
-bindings-last V F bs = all-last (λ (b : Name × Meaning) k. MeaningIn V F b.1 k) (λ b. meaning-lasts V F b.1) bs
+bindings-last : (V : ℕ → Type 0) (F : Nodes) (bs : List (Name × Bound)) → Lasts (BindingsIn V F bs)
+bindings-last V F bs = all-last (λ (b : Name × Bound) k. BoundIn V F b.1 k) (λ b. bound-lasts V F b.1) bs
 
-pub env-bind : (V : ℕ → Type 0) (F : Nodes) (bs : List (Name × Meaning)) (env : Env) (n : ℕ) → BindingsIn V F bs n → EnvIn V F env n → EnvIn V F (bind bs env) n
-env-bind V F bs env n h k = record { bound = all-join (λ (b : Name × Meaning). MeaningIn V F b.1 n) bs env.bound h k.bound; live = k.live }
+pub env-bind : (V : ℕ → Type 0) (F : Nodes) (bs : List (Name × Bound)) (env : Env) (n : ℕ) → BindingsIn V F bs n → EnvIn V F env n → EnvIn V F (bind bs env) n
+env-bind V F bs env n h k = record { bound = all-join (λ (b : Name × Bound). BoundIn V F b.1 n) bs env.bound h k.bound; live = k.live }
 
 -- ---- names
 
@@ -78,12 +91,16 @@ abbrev UseFound : (ℕ → Type 0) → Nodes → Option Use → ℕ → Type 0
 UseFound V F None n = ⊤
 UseFound V F (Some u) n = UseIn V F u n
 
-found-bound : (V : ℕ → Type 0) (F : Nodes) (n : ℕ) (bs : List (Name × Meaning)) (name : Name) (live : Option Use) → BindingsIn V F bs n → UseFound V F live n → UseFound V F (use_of (find_bound bs name) live) n
+found-bound : (V : ℕ → Type 0) (F : Nodes) (n : ℕ) (bs : List (Name × Bound)) (name : Name) (live : Option Use) → BindingsIn V F bs n → UseFound V F live n → UseFound V F (use_of (find_bound bs name) live) n
 found-bound V F n [] name live h k = k
 found-bound V F n (b ∷ bs) name live h k = by-test (bytes_eq b.0 name) (found-bound V F n bs name live h.1 k)
   where
+    here : (x : Bound) → BoundIn V F x n → UseFound V F (use_of (Some x) live) n
+    here (Variable v s) k = k
+    here (Standing m) k = (refl, meaning-wider V (λ v. V v ⊎ ContainsByRecursion v []) F m n (λ v x. inl x) k)
+
     by-test : (t : Bool) → UseFound V F (use_of (find_bound bs name) live) n → UseFound V F (use_of (if t then Some b.1 else find_bound bs name) live) n
-    by-test true go = meaning-wider V (λ v. V v ⊎ ContainsByRecursion v []) F b.1 n (λ v x. inl x) h.0
+    by-test true go = here b.1 h.0
     by-test false go = go
 
 found-live : (V : ℕ → Type 0) (F : Nodes) (n : ℕ) (ss : List LiveSymbol) (name : Name) → AllByRecursion (λ (s : LiveSymbol). UseIn V F s.stands_for n) ss → UseFound V F (find_symbol ss name) n
@@ -100,20 +117,21 @@ found V F n env name h = found-bound V F n env.bound name (find_symbol env.live 
 no-parameters : (V : ℕ → Type 0) (F : Nodes) (m : Meaning) (n : ℕ) → MeaningIn (λ v. V v ⊎ ContainsByRecursion v []) F m n → MeaningIn V F m n
 no-parameters V F m n h = meaning-wider (λ v. V v ⊎ ContainsByRecursion v []) V F m n (λ v k. elim k [ inl x ↦ x | inr x ↦ absurd x ]) h
 
-good-plain-use : (F : Nodes) (V Q : ℕ → Type 0) (p : Position) (u : Option Use) → Good F Q (UseFound V F u) (MeaningIn V F) (plain_use p u)
-good-plain-use F V Q p None = good-refuse F Q (λ n. ⊤) (MeaningIn V F) Unknown p
-good-plain-use F V Q p (Some (Constant_of v)) = good-give F Q (λ n. V v) (MeaningIn V F) (Int (variable_form v)) (λ n c. (c, tt))
-good-plain-use F V Q p (Some (Defined [] m)) = good-give F Q (UseIn V F (Defined [] m)) (MeaningIn V F) m (λ n c. no-parameters V F m n c)
-good-plain-use F V Q p (Some (Defined (v ∷ vs) m)) = good-refuse F Q (UseIn V F (Defined (v ∷ vs) m)) (MeaningIn V F) Sort p
+good-variable-term : (F : Nodes) (V Q : ℕ → Type 0) → IsWhole F → (p : Position) (v : ℕ) (s : VariableSort) → Good F Q (λ n. V v) (MeaningIn V F) (variable_term p v s)
+good-variable-term F V Q whole p v sort.Int = good-give F Q (λ n. V v) (MeaningIn V F) (Int (variable_form v)) (λ n c. (c, tt))
+good-variable-term F V Q whole p v sort.Bool = good-as-truth F V Q (λ n. V v) (make (truth_atom v) p) (good-make F V Q (λ n. V v) whole (truth_atom v) p (λ n c. ((c, tt), tt)))
 
-abbrev DefinitionIn : (ℕ → Type 0) → Nodes → List ℕ × Meaning → ℕ → Type 0
-DefinitionIn V F d n = MeaningIn (λ v. V v ⊎ ContainsByRecursion v d.0) F d.1 n
+good-plain-use : (F : Nodes) (V Q : ℕ → Type 0) → IsWhole F → (p : Position) (u : Option Use) → Good F Q (UseFound V F u) (MeaningIn V F) (plain_use p u)
+good-plain-use F V Q whole p None = good-refuse F Q (λ n. ⊤) (MeaningIn V F) Unknown p
+good-plain-use F V Q whole p (Some (Constant_of v s)) = good-variable-term F V Q whole p v s
+good-plain-use F V Q whole p (Some (Defined [] ss m)) = good-give F Q (UseIn V F (Defined [] ss m)) (MeaningIn V F) m (λ n c. no-parameters V F m n c.1)
+good-plain-use F V Q whole p (Some (Defined (v ∷ vs) ss m)) = good-refuse F Q (UseIn V F (Defined (v ∷ vs) ss m)) (MeaningIn V F) Sort p
 
 good-head-use : (F : Nodes) (V Q : ℕ → Type 0) (p : Position) (u : Option Use) → Good F Q (UseFound V F u) (DefinitionIn V F) (head_use p u)
 good-head-use F V Q p None = good-refuse F Q (λ n. ⊤) (DefinitionIn V F) Unknown p
-good-head-use F V Q p (Some (Constant_of v)) = good-refuse F Q (λ n. V v) (DefinitionIn V F) Sort p
-good-head-use F V Q p (Some (Defined [] m)) = good-refuse F Q (UseIn V F (Defined [] m)) (DefinitionIn V F) Sort p
-good-head-use F V Q p (Some (Defined (v ∷ vs) m)) = good-give F Q (UseIn V F (Defined (v ∷ vs) m)) (DefinitionIn V F) (v ∷ vs, m) (λ n c. c)
+good-head-use F V Q p (Some (Constant_of v s)) = good-refuse F Q (λ n. V v) (DefinitionIn V F) Sort p
+good-head-use F V Q p (Some (Defined [] ss m)) = good-refuse F Q (UseIn V F (Defined [] ss m)) (DefinitionIn V F) Sort p
+good-head-use F V Q p (Some (Defined (v ∷ vs) ss m)) = good-give F Q (UseIn V F (Defined (v ∷ vs) ss m)) (DefinitionIn V F) (v ∷ vs, ss, m) (λ n c. c)
 
 -- ---- binders
 
@@ -134,46 +152,51 @@ good-pair F Q C P (Some (a ∷ [])) p f h = good-refuse F Q C P Syntax p
 good-pair F Q C P (Some (a ∷ b ∷ [])) p f h = h a b
 good-pair F Q C P (Some (a ∷ b ∷ c ∷ more)) p f h = good-refuse F Q C P Syntax p
 
-good-binding : (F : Nodes) (V Q : ℕ → Type 0) (env : Env) (term : Env → SExpr → Elab Meaning) → IsGood F term → (taken : List Name) (e : SExpr) → Good F Q (EnvIn V F env) (λ (b : Name × Meaning) n. MeaningIn V F b.1 n) (Terms.binding (term env) taken e)
+good-binding : (F : Nodes) (V Q : ℕ → Type 0) (env : Env) (term : Env → SExpr → Elab Meaning) → IsGood F term → (taken : List Name) (e : SExpr) → Good F Q (EnvIn V F env) (λ (b : Name × Bound) n. BoundIn V F b.1 n) (Terms.binding (term env) taken e)
 good-binding F V Q env term good taken e =
-    good-pair F Q (EnvIn V F env) (λ (b : Name × Meaning) n. MeaningIn V F b.1 n) (items_of e) (place_of e) (λ s t. Terms.bindable taken s >>= λ name. term env t >>= λ m. give (name, m))
-    (λ s t. good-then F Q (EnvIn V F env) (EnvIn V F env) (λ name n. ⊤) (λ (b : Name × Meaning) n. MeaningIn V F b.1 n) (Terms.bindable taken s) (λ name. term env t >>= λ m. give (name, m)) (env-lasts V F env) (λ n c. c) (good-bindable F Q (EnvIn V F env) taken s)
-    (λ name. good-then F Q (λ n. EnvIn V F env n × ⊤) (λ n. ⊤) (MeaningIn V F) (λ (b : Name × Meaning) n. MeaningIn V F b.1 n) (term env t) (λ m. give (name, m)) (λ n n' le k. k) (λ n c. tt) (good-weaken F Q (EnvIn V F env) (λ n. EnvIn V F env n × ⊤) (MeaningIn V F) (MeaningIn V F) (term env t) (λ n c. c.0) (λ x n k. k) (good V Q env t))
-    (λ m. good-give F Q (λ n. ⊤ × MeaningIn V F m n) (λ (b : Name × Meaning) n. MeaningIn V F b.1 n) (name, m) (λ n c. c.1))))
+    good-pair F Q (EnvIn V F env) (λ (b : Name × Bound) n. BoundIn V F b.1 n) (items_of e) (place_of e) (λ s t. Terms.bindable taken s >>= λ name. term env t >>= λ m. give (name, Standing m))
+    (λ s t. good-then F Q (EnvIn V F env) (EnvIn V F env) (λ name n. ⊤) (λ (b : Name × Bound) n. BoundIn V F b.1 n) (Terms.bindable taken s) (λ name. term env t >>= λ m. give (name, Standing m)) (env-lasts V F env) (λ n c. c) (good-bindable F Q (EnvIn V F env) taken s)
+    (λ name. good-then F Q (λ n. EnvIn V F env n × ⊤) (λ n. ⊤) (MeaningIn V F) (λ (b : Name × Bound) n. BoundIn V F b.1 n) (term env t) (λ m. give (name, Standing m)) (λ n n' le k. k) (λ n c. tt) (good-weaken F Q (EnvIn V F env) (λ n. EnvIn V F env n × ⊤) (MeaningIn V F) (MeaningIn V F) (term env t) (λ n c. c.0) (λ x n k. k) (good V Q env t))
+    (λ m. good-give F Q (λ n. ⊤ × MeaningIn V F m n) (λ (b : Name × Bound) n. BoundIn V F b.1 n) (name, Standing m) (λ n c. c.1))))
 
-good-bindings : (F : Nodes) (V Q : ℕ → Type 0) (env : Env) (term : Env → SExpr → Elab Meaning) → IsGood F term → (done : List (Name × Meaning)) (es : List SExpr) → Good F Q (λ n. EnvIn V F env n × BindingsIn V F done n) (BindingsIn V F) (Terms.bindings (term env) done es)
+good-bindings : (F : Nodes) (V Q : ℕ → Type 0) (env : Env) (term : Env → SExpr → Elab Meaning) → IsGood F term → (done : List (Name × Bound)) (es : List SExpr) → Good F Q (λ n. EnvIn V F env n × BindingsIn V F done n) (BindingsIn V F) (Terms.bindings (term env) done es)
 good-bindings F V Q env term good done [] = good-give F Q (λ n. EnvIn V F env n × BindingsIn V F done n) (BindingsIn V F) done (λ n c. c.1)
 good-bindings F V Q env term good done (e ∷ es) =
-    good-then F Q (λ n. EnvIn V F env n × BindingsIn V F done n) (λ n. EnvIn V F env n × BindingsIn V F done n) (λ (b : Name × Meaning) n. MeaningIn V F b.1 n) (BindingsIn V F) (Terms.binding (term env) (map (λ b. b.0) done) e) (λ b. Terms.bindings (term env) (b ∷ done) es) (λ n n' le c. (env-lasts V F env n n' le c.0, bindings-last V F done n n' le c.1)) (λ n c. c)
-    (good-weaken F Q (EnvIn V F env) (λ n. EnvIn V F env n × BindingsIn V F done n) (λ (b : Name × Meaning) n. MeaningIn V F b.1 n) (λ (b : Name × Meaning) n. MeaningIn V F b.1 n) (Terms.binding (term env) (map (λ b. b.0) done) e) (λ n c. c.0) (λ x n k. k) (good-binding F V Q env term good (map (λ b. b.0) done) e))
-    (λ b. good-weaken F Q (λ n. EnvIn V F env n × BindingsIn V F (b ∷ done) n) (λ n. (EnvIn V F env n × BindingsIn V F done n) × MeaningIn V F b.1 n) (BindingsIn V F) (BindingsIn V F) (Terms.bindings (term env) (b ∷ done) es) (λ n c. (c.0.0, (c.1, c.0.1))) (λ x n k. k) (good-bindings F V Q env term good (b ∷ done) es))
+    good-then F Q (λ n. EnvIn V F env n × BindingsIn V F done n) (λ n. EnvIn V F env n × BindingsIn V F done n) (λ (b : Name × Bound) n. BoundIn V F b.1 n) (BindingsIn V F) (Terms.binding (term env) (map (λ b. b.0) done) e) (λ b. Terms.bindings (term env) (b ∷ done) es) (λ n n' le c. (env-lasts V F env n n' le c.0, bindings-last V F done n n' le c.1)) (λ n c. c)
+    (good-weaken F Q (EnvIn V F env) (λ n. EnvIn V F env n × BindingsIn V F done n) (λ (b : Name × Bound) n. BoundIn V F b.1 n) (λ (b : Name × Bound) n. BoundIn V F b.1 n) (Terms.binding (term env) (map (λ b. b.0) done) e) (λ n c. c.0) (λ x n k. k) (good-binding F V Q env term good (map (λ b. b.0) done) e))
+    (λ b. good-weaken F Q (λ n. EnvIn V F env n × BindingsIn V F (b ∷ done) n) (λ n. (EnvIn V F env n × BindingsIn V F done n) × BoundIn V F b.1 n) (BindingsIn V F) (BindingsIn V F) (Terms.bindings (term env) (b ∷ done) es) (λ n c. (c.0.0, (c.1, c.0.1))) (λ x n k. k) (good-bindings F V Q env term good (b ∷ done) es))
 
-good-int-sort : (F : Nodes) (Q C : ℕ → Type 0) (e : SExpr) → Good F Q C (λ _ n. ⊤) (Terms.int_sort e)
-good-int-sort F Q C e = good-weaken F Q C C (λ _ n. bytes_eq (Exprs.name_of (symbol_of e)) (codes "Int") ≡ true) (λ _ n. ⊤) (Terms.int_sort e) (λ n c. c) (λ x n k. tt) (good-require F Q C (bytes_eq (Exprs.name_of (symbol_of e)) (codes "Int")) Unsupported (place_of e))
+good-named-sort : (F : Nodes) (Q C : ℕ → Type 0) (e : SExpr) → Good F Q C (λ _ n. ⊤) (Terms.named_sort e)
+good-named-sort F Q C e = by-name (bytes_eq (Exprs.name_of (symbol_of e)) (codes "Int")) (bytes_eq (Exprs.name_of (symbol_of e)) (codes "Bool"))
+  where
+    by-name : (a b : Bool) → Good F Q C (λ _ n. ⊤) (if a then give sort.Int else if b then give sort.Bool else refuse Unsupported (place_of e))
+    by-name true b = good-give F Q C (λ _ n. ⊤) sort.Int (λ n c. tt)
+    by-name false true = good-give F Q C (λ _ n. ⊤) sort.Bool (λ n c. tt)
+    by-name false false = good-refuse F Q C (λ _ n. ⊤) Unsupported (place_of e)
 
 -- new variables may be bound
-pub good-variable : (F : Nodes) (Q C : ℕ → Type 0) (taken : List Name) (e : SExpr) → Good F Q C (λ (x : Name × ℕ) n. Q x.1) (Terms.variable taken e)
+pub good-variable : (F : Nodes) (Q C : ℕ → Type 0) (taken : List Name) (e : SExpr) → Good F Q C (λ (x : Name × ℕ × VariableSort) n. Q x.1) (Terms.variable taken e)
 good-variable F Q C taken e =
-    good-pair F Q C (λ (x : Name × ℕ) n. Q x.1) (items_of e) (place_of e) (λ s sort. Terms.bindable taken s >>= λ name. Terms.int_sort sort >>= λ _. fresh >>= λ v. give (name, v))
-    (λ s sort. good-then F Q C (λ n. ⊤) (λ name n. ⊤) (λ (x : Name × ℕ) n. Q x.1) (Terms.bindable taken s) (λ name. Terms.int_sort sort >>= λ _. fresh >>= λ v. give (name, v)) (λ n n' le k. k) (λ n c. tt) (good-bindable F Q C taken s)
-    (λ name. good-then F Q (λ n. ⊤ × ⊤) (λ n. ⊤) (λ _ n. ⊤) (λ (x : Name × ℕ) n. Q x.1) (Terms.int_sort sort) (λ _. fresh >>= λ v. give (name, v)) (λ n n' le k. k) (λ n c. tt) (good-int-sort F Q (λ n. ⊤ × ⊤) sort)
-    (λ _. good-then F Q (λ n. ⊤ × ⊤) (λ n. ⊤) (λ v n. Q v) (λ (x : Name × ℕ) n. Q x.1) fresh (λ v. give (name, v)) (λ n n' le k. k) (λ n c. tt) (good-fresh F Q (λ n. ⊤ × ⊤))
-    (λ v. good-give F Q (λ n. ⊤ × Q v) (λ (x : Name × ℕ) n. Q x.1) (name, v) (λ n c. c.1)))))
+    good-pair F Q C (λ (x : Name × ℕ × VariableSort) n. Q x.1) (items_of e) (place_of e) (λ s t. Terms.bindable taken s >>= λ name. Terms.named_sort t >>= λ x. fresh x >>= λ v. give (name, v, x))
+    (λ s t. good-then F Q C (λ n. ⊤) (λ name n. ⊤) (λ (x : Name × ℕ × VariableSort) n. Q x.1) (Terms.bindable taken s) (λ name. Terms.named_sort t >>= λ x. fresh x >>= λ v. give (name, v, x)) (λ n n' le k. k) (λ n c. tt) (good-bindable F Q C taken s)
+    (λ name. good-then F Q (λ n. ⊤ × ⊤) (λ n. ⊤) (λ _ n. ⊤) (λ (x : Name × ℕ × VariableSort) n. Q x.1) (Terms.named_sort t) (λ x. fresh x >>= λ v. give (name, v, x)) (λ n n' le k. k) (λ n c. tt) (good-named-sort F Q (λ n. ⊤ × ⊤) t)
+    (λ x. good-then F Q (λ n. ⊤ × ⊤) (λ n. ⊤) (λ v n. Q v) (λ (x : Name × ℕ × VariableSort) n. Q x.1) (fresh x) (λ v. give (name, v, x)) (λ n n' le k. k) (λ n c. tt) (good-fresh F Q (λ n. ⊤ × ⊤) x)
+    (λ v. good-give F Q (λ n. ⊤ × Q v) (λ (x : Name × ℕ × VariableSort) n. Q x.1) (name, v, x) (λ n c. c.1)))))
 
-abbrev VariablesIn : (ℕ → Type 0) → List (Name × ℕ) → ℕ → Type 0
-VariablesIn Q xs n = AllByRecursion (λ (x : Name × ℕ). Q x.1) xs
+abbrev VariablesIn : (ℕ → Type 0) → List (Name × ℕ × VariableSort) → ℕ → Type 0
+VariablesIn Q xs n = AllByRecursion (λ (x : Name × ℕ × VariableSort). Q x.1) xs
 
-good-variables : (F : Nodes) (Q : ℕ → Type 0) (done : List (Name × ℕ)) (es : List SExpr) → Good F Q (VariablesIn Q done) (VariablesIn Q) (Terms.variables done es)
+good-variables : (F : Nodes) (Q : ℕ → Type 0) (done : List (Name × ℕ × VariableSort)) (es : List SExpr) → Good F Q (VariablesIn Q done) (VariablesIn Q) (Terms.variables done es)
 good-variables F Q done [] = good-give F Q (VariablesIn Q done) (VariablesIn Q) done (λ n c. c)
 good-variables F Q done (e ∷ es) =
-    good-then F Q (VariablesIn Q done) (VariablesIn Q done) (λ (x : Name × ℕ) n. Q x.1) (VariablesIn Q) (Terms.variable [] e) (λ x. Terms.variables (x ∷ done) es) (λ n n' le k. k) (λ n c. c) (good-variable F Q (VariablesIn Q done) [] e)
+    good-then F Q (VariablesIn Q done) (VariablesIn Q done) (λ (x : Name × ℕ × VariableSort) n. Q x.1) (VariablesIn Q) (Terms.variable [] e) (λ x. Terms.variables (x ∷ done) es) (λ n n' le k. k) (λ n c. c) (good-variable F Q (VariablesIn Q done) [] e)
     (λ x. good-weaken F Q (VariablesIn Q (x ∷ done)) (λ n. VariablesIn Q done n × Q x.1) (VariablesIn Q) (VariablesIn Q) (Terms.variables (x ∷ done) es) (λ n c. (c.1, c.0)) (λ x n k. k) (good-variables F Q (x ∷ done) es))
 
 -- V, and the variables of the list
-abbrev And : (ℕ → Type 0) → List (Name × ℕ) → ℕ → Type 0
-And V xs u = V u ⊎ ContainsByRecursion u (map (λ (x : Name × ℕ). x.1) xs)
+abbrev And : (ℕ → Type 0) → List (Name × ℕ × VariableSort) → ℕ → Type 0
+And V xs u = V u ⊎ ContainsByRecursion u (map (λ (x : Name × ℕ × VariableSort). x.1) xs)
 
-good-exists-all : (F : Nodes) (V Q : ℕ → Type 0) → IsWhole F → (p : Position) (xs : List (Name × ℕ)) (a : ℕ) → Good F Q (λ n. VariablesIn Q xs n × NodeIn (And V xs) F a n) (NodeIn V F) (Terms.exists_all p xs a)
+good-exists-all : (F : Nodes) (V Q : ℕ → Type 0) → IsWhole F → (p : Position) (xs : List (Name × ℕ × VariableSort)) (a : ℕ) → Good F Q (λ n. VariablesIn Q xs n × NodeIn (And V xs) F a n) (NodeIn V F) (Terms.exists_all p xs a)
 good-exists-all F V Q whole p [] a = good-give F Q (λ n. VariablesIn Q [] n × NodeIn (And V []) F a n) (NodeIn V F) a (λ n c. (c.1.0, all-wider (And V []) V (variables_of F a) (λ u k. elim k [ inl x ↦ x | inr x ↦ absurd x ]) c.1.1))
 good-exists-all F V Q whole p (x ∷ xs) a =
     good-then F Q (λ n. VariablesIn Q (x ∷ xs) n × NodeIn (And V (x ∷ xs)) F a n) (VariablesIn Q xs) (NodeIn (And V xs) F) (NodeIn V F) (make_exists x.1 a p) (λ b. Terms.exists_all p xs b) (λ n n' le k. k) (λ n c. c.0.1)
@@ -181,7 +204,7 @@ good-exists-all F V Q whole p (x ∷ xs) a =
     (λ n c. ((c.1.0, all-wider (And V (x ∷ xs)) (λ u. And V xs u ⊎ (u ≡ x.1)) (variables_of F a) (λ u k. elim k [ inl v ↦ inl (inl v) | inr d ↦ elim d [ inl same ↦ inr same | inr rest ↦ inl (inr rest) ] ]) c.1.1), c.0.0)))
     (λ b. good-exists-all F V Q whole p xs b)
 
-good-quantified : (F : Nodes) (V Q : ℕ → Type 0) → IsWhole F → (is_exists : Bool) (p : Position) (xs : List (Name × ℕ)) (a : ℕ) → Good F Q (λ n. VariablesIn Q xs n × NodeIn (And V xs) F a n) (NodeIn V F) (Terms.quantified is_exists p xs a)
+good-quantified : (F : Nodes) (V Q : ℕ → Type 0) → IsWhole F → (is_exists : Bool) (p : Position) (xs : List (Name × ℕ × VariableSort)) (a : ℕ) → Good F Q (λ n. VariablesIn Q xs n × NodeIn (And V xs) F a n) (NodeIn V F) (Terms.quantified is_exists p xs a)
 good-quantified F V Q whole true p xs a = good-exists-all F V Q whole p xs a
 good-quantified F V Q whole false p xs a =
     good-then F Q (λ n. VariablesIn Q xs n × NodeIn (And V xs) F a n) (VariablesIn Q xs) (NodeIn (And V xs) F) (NodeIn V F) (make (node.Not a) p) (λ b. Terms.exists_all p xs b >>= λ c. make (node.Not c) p) (λ n n' le k. k) (λ n c. c.0)
@@ -192,12 +215,12 @@ good-quantified F V Q whole false p xs a =
 -- ---- terms
 
 -- the names of a quantifier stand for their variables
-variables-bound : (V : ℕ → Type 0) (F : Nodes) (xs : List (Name × ℕ)) (n : ℕ) → BindingsIn (And V xs) F (map Terms.as_bound xs) n
+variables-bound : (V : ℕ → Type 0) (F : Nodes) (xs : List (Name × ℕ × VariableSort)) (n : ℕ) → BindingsIn (And V xs) F (map Terms.as_bound xs) n
 variables-bound V F xs n = over xs (λ u h. inr h)
   where
-    over : (ys : List (Name × ℕ)) → ((u : ℕ) → ContainsByRecursion u (map (λ (x : Name × ℕ). x.1) ys) → And V xs u) → BindingsIn (And V xs) F (map Terms.as_bound ys) n
+    over : (ys : List (Name × ℕ × VariableSort)) → ((u : ℕ) → ContainsByRecursion u (map (λ (x : Name × ℕ × VariableSort). x.1) ys) → And V xs u) → BindingsIn (And V xs) F (map Terms.as_bound ys) n
     over [] h = tt
-    over (y ∷ ys) h = ((h y.1 (inl refl), tt), over ys (λ u k. h u (inr k)))
+    over (y ∷ ys) h = (h y.1 (inl refl), over ys (λ u k. h u (inr k)))
 
 good-truth-of : (F : Nodes) (V Q : ℕ → Type 0) (p : Position) (m : Meaning) → Good F Q (MeaningIn V F m) (NodeIn V F) (truth_of p m)
 good-truth-of F V Q p (Truth i) = good-give F Q (NodeIn V F i) (NodeIn V F) i (λ n c. c)
@@ -244,7 +267,7 @@ good-leaf F V Q whole env p (Symbol name) = by-name (bytes_eq name (codes "true"
     by-name : (a b : Bool) → Good F Q (EnvIn V F env) (MeaningIn V F) (if a then as_truth (make node.True p) else if b then as_truth (make node.False p) else plain_use p (look_up env name))
     by-name true b = good-as-truth F V Q (EnvIn V F env) (make node.True p) (good-make F V Q (EnvIn V F env) whole node.True p (λ n c. (tt, tt)))
     by-name false true = good-as-truth F V Q (EnvIn V F env) (make node.False p) (good-make F V Q (EnvIn V F env) whole node.False p (λ n c. (tt, tt)))
-    by-name false false = good-weaken F Q (UseFound V F (look_up env name)) (EnvIn V F env) (MeaningIn V F) (MeaningIn V F) (plain_use p (look_up env name)) (λ n c. found V F n env name c) (λ x n k. k) (good-plain-use F V Q p (look_up env name))
+    by-name false false = good-weaken F Q (UseFound V F (look_up env name)) (EnvIn V F env) (MeaningIn V F) (MeaningIn V F) (plain_use p (look_up env name)) (λ n c. found V F n env name c) (λ x n k. k) (good-plain-use F V Q whole p (look_up env name))
 good-leaf F V Q whole env p Constant = good-refuse F Q (EnvIn V F env) (MeaningIn V F) Unsupported p
 good-leaf F V Q whole env p (Text literal) = good-refuse F Q (EnvIn V F env) (MeaningIn V F) Unsupported p
 good-leaf F V Q whole env p (Keyword name) = good-refuse F Q (EnvIn V F env) (MeaningIn V F) Syntax p
@@ -266,7 +289,7 @@ good-named : (F : Nodes) (V Q : ℕ → Type 0) → IsWhole F → (env : Env) (t
 good-named F V Q whole env term good p q name items =
     good-then F Q (EnvIn V F env) (EnvIn V F env) (DefinitionIn V F) (MeaningIn V F) (head_use q (look_up env name)) (λ d. each (Terms.argument (term env)) items >>= λ xs. Theory.call p d xs) (env-lasts V F env) (λ n c. c)
     (good-weaken F Q (UseFound V F (look_up env name)) (EnvIn V F env) (DefinitionIn V F) (DefinitionIn V F) (head_use q (look_up env name)) (λ n c. found V F n env name c) (λ x n k. k) (good-head-use F V Q q (look_up env name)))
-    (λ d. good-then F Q (λ n. EnvIn V F env n × DefinitionIn V F d n) (DefinitionIn V F d) (ArgumentsIn V F) (MeaningIn V F) (each (Terms.argument (term env)) items) (λ xs. Theory.call p d xs) (meaning-lasts (λ v. V v ⊎ ContainsByRecursion v d.0) F d.1) (λ n c. c.1)
+    (λ d. good-then F Q (λ n. EnvIn V F env n × DefinitionIn V F d n) (DefinitionIn V F d) (ArgumentsIn V F) (MeaningIn V F) (each (Terms.argument (term env)) items) (λ xs. Theory.call p d xs) (definition-lasts V F d) (λ n c. c.1)
     (good-weaken F Q (EnvIn V F env) (λ n. EnvIn V F env n × DefinitionIn V F d n) (ArgumentsIn V F) (ArgumentsIn V F) (each (Terms.argument (term env)) items) (λ n c. c.0) (λ x n k. k) (good-arguments F V Q env term good items))
     (λ xs. good-call F V Q whole p d xs))
 

@@ -8,10 +8,12 @@ use Rattle.pt_formula.specs.declared.form.Form.{Form}
 use Rattle.pt_formula.specs.Forms.{Term, is_zero, IsIncreasing, AreTerms}
 use Rattle.pt_formula.specs.Sums.{fits, fits_terms, fits_form, has_few_terms, term_list, add_term, sum_terms, scale_terms, form_sum, form_difference, form_scale, IsForm}
 use Rattle.pt_syntax.specs.declared.kinds.ReadKind.TheVariants.{Coefficient, Tracks}
+use Rattle.pt_terms.specs.declared.meaning.Sort.TheVariants as sort
 use Rattle.pt_terms.specs.Elaboration.{Work, give, refuse, form, constant_form, variable_form}
-use Rattle.pt_terms.specs.Sound.{AreTermsBelow, IsFormBelow}
+use Rattle.pt_terms.specs.Sorts.{HasSort, AreIntegers}
+use Rattle.pt_terms.specs.Sound.{IsFormOver}
 use Rattle.pt_terms.specs.Keeps.{Keeps}
-use Rattle.pt_terms.proofs.BelowForms.{below_sum, below_scale, below_difference}
+use Rattle.pt_terms.proofs.FreeTerms.{sum-in, scale-in, difference-in}
 use Rattle.pt_terms.proofs.KeepSteps.{keeps-give, keeps-refuse}
 
 -- variables increase, from behind v on
@@ -85,9 +87,9 @@ terms-scale k (t ∷ ts) h =
     (rising-list (t.0, k *ℤ t.1) (scale_terms k ts) (above-scale t.0 k ts h.0.0) rest.0, no-zeros-list (t.0, k *ℤ t.1) (scale_terms k ts) rest.1)
 
 abbrev pub IsFormIn : Form → Work → Type 0
-IsFormIn f w = IsFormBelow w.given f
+IsFormIn f w = IsFormOver w.given f
 
-pub keeps-form : (f : Form) (p : Position) (w : Work) → AreTerms f.terms → AreTermsBelow w.given f.terms → Keeps IsFormIn (form f p) w
+pub keeps-form : (f : Form) (p : Position) (w : Work) → AreTerms f.terms → AreIntegers w.given f.terms → Keeps IsFormIn (form f p) w
 keeps-form f p w terms below = by-size (fits_form f) refl (has_few_terms f) refl
   where
     by-size : (a : Bool) → fits_form f ≡ a → (b : Bool) → has_few_terms f ≡ b → Keeps IsFormIn (if a then (if b then give f else refuse Tracks p) else refuse Coefficient p) w
@@ -96,16 +98,16 @@ keeps-form f p w terms below = by-size (fits_form f) refl (has_few_terms f) refl
     by-size false small b few = keeps-refuse IsFormIn Coefficient p w
 
 pub keeps-sum : (f g : Form) (p : Position) (w : Work) → IsFormIn f w → IsFormIn g w → Keeps IsFormIn (form (form_sum f g) p) w
-keeps-sum f g p w h k = keeps-form (form_sum f g) p w (terms-sum f.terms g.terms k.0.terms) (below_sum w.given (form_sum f g) f g refl h.1 k.1)
+keeps-sum f g p w h k = keeps-form (form_sum f g) p w (terms-sum f.terms g.terms k.0.terms) (sum-in (λ v. HasSort w.given v sort.Int) f g 0 h.1 k.1)
 
 pub keeps-scale : (c : ℤ) (f : Form) (p : Position) (w : Work) → IsFormIn f w → Keeps IsFormIn (form (form_scale c f) p) w
-keeps-scale c f p w h = keeps-form (form_scale c f) p w (terms-scale c f.terms h.0.terms) (below_scale w.given c (form_scale c f) f refl h.1)
+keeps-scale c f p w h = keeps-form (form_scale c f) p w (terms-scale c f.terms h.0.terms) (scale-in (λ v. HasSort w.given v sort.Int) c f 0 h.1)
 
 pub keeps-difference : (f g : Form) (p : Position) (w : Work) → IsFormIn f w → IsFormIn g w → Keeps IsFormIn (form (form_difference f g) p) w
-keeps-difference f g p w h k = keeps-form (form_difference f g) p w (terms-sum f.terms (scale_terms (negsuc 0) g.terms) (terms-scale (negsuc 0) g.terms k.0.terms)) (below_difference w.given (form_difference f g) f g refl h.1 k.1)
+keeps-difference f g p w h k = keeps-form (form_difference f g) p w (terms-sum f.terms (scale_terms (negsuc 0) g.terms) (terms-scale (negsuc 0) g.terms k.0.terms)) (difference-in (λ v. HasSort w.given v sort.Int) f g 0 h.1 k.1)
 
-pub variable-form-in : (v : ℕ) (w : Work) → v < w.given → IsFormIn (variable_form v) w
-variable-form-in v w lt = (record { terms = ((tt, tt), (refl, tt)); few = refl; small = refl }, (lt, tt))
+pub variable-form-in : (v : ℕ) (w : Work) → HasSort w.given v sort.Int → IsFormIn (variable_form v) w
+variable-form-in v w h = (record { terms = ((tt, tt), (refl, tt)); few = refl; small = refl }, (h, tt))
 
 pub constant-form-in : (c : ℤ) (w : Work) → fits c ≡ true → IsFormIn (constant_form c) w
 constant-form-in c w h = (record { terms = (tt, tt); few = refl; small = h }, tt)

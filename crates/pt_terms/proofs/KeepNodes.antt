@@ -1,5 +1,5 @@
 -- A node that is made keeps the work sound.
-use Rattle.std.proofs.Common.{◌≡◌, ◌⊎◌, inl, inr, ℕ, zero, suc, ◌<◌, ◌≤◌, nat_lt, nat_le, Bool, true, false, if◌then◌else◌, List, [], ◌∷◌, ◌++◌, length, arith, refl, sym, ap, subst, ◌∙◌, length-append}
+use Rattle.std.proofs.Common.{◌≡◌, ◌⊎◌, inl, inr, ℕ, zero, suc, ◌<◌, ◌≤◌, nat_lt, nat_le, Bool, true, false, if◌then◌else◌, List, [], ◌∷◌, ◌++◌, length, arith, refl, sym, ap, subst, ◌∙◌, length-append, append-nil}
 use Rattle.std.proofs.lemmas.Bool.Decides.{nat_tests}
 use Rattle.std.specs.Prelude.{Ok, Err, slice_get}
 use Rattle.std.specs.List.{AllByRecursion}
@@ -16,10 +16,12 @@ use Rattle.pt_formula.specs.Formulas.{node_at, entry_node, children, HasTerms, n
 use Rattle.pt_terms.specs.Elaboration.{Work, built, make, make_exists}
 use Rattle.pt_terms.specs.Gives.{Grows}
 use Rattle.pt_terms.specs.Below.{BindsBelow}
-use Rattle.pt_terms.specs.Sound.{AreBelow, AreTermsBelow}
+use Rattle.pt_terms.specs.Sorts.{IsSorted}
+use Rattle.pt_terms.specs.Sound.{AreBelow}
 use Rattle.pt_terms.specs.Keeps.{IsSoundWork, Keeps, IsNodeIn}
 use Rattle.pt_terms.specs.Free.{Nodes}
 use Rattle.pt_terms.proofs.BelowLemmas.{slice_get-new, variables_below, op_below, exists_below, all_terms, appended_below}
+use Rattle.pt_terms.proofs.SortLemmas.{sorted-below, appended-sorted}
 use Rattle.pt_terms.proofs.KeepSteps.{keeps-give}
 
 -- the laws of formulas that are used
@@ -97,13 +99,13 @@ appended laws f n p h earlier terms few room = record {
 abbrev pub IsNewNode : Work → Node → Type 0
 IsNewNode w node.True = Unit {0}
 IsNewNode w node.False = Unit {0}
-IsNewNode w (node.Atom kind terms c) = ((0 < length terms) × AreTerms terms × IsModulus kind) × AreTermsBelow w.given terms
+IsNewNode w (node.Atom kind terms c) = ((0 < length terms) × AreTerms terms × IsModulus kind) × IsSorted w.given (node.Atom kind terms c)
 IsNewNode w (node.Not a) = IsNodeIn a w
 IsNewNode w (node.And a b) = IsNodeIn a w × IsNodeIn b w
 IsNewNode w (node.Or a b) = IsNodeIn a w × IsNodeIn b w
 IsNewNode w (node.Iff a b) = IsNodeIn a w × IsNodeIn b w
 IsNewNode w (node.Xor a b) = IsNodeIn a w × IsNodeIn b w
-IsNewNode w (node.Exists v a) = (v < w.given) × IsNodeIn a w
+IsNewNode w (node.Exists v a) = (v < length w.given) × IsNodeIn a w
 
 new-children : (w : Work) (n : Node) → IsNewNode w n → AllByRecursion (λ c. c < length w.formula) (children n)
 new-children w node.True h = tt
@@ -127,18 +129,18 @@ new-terms w (node.Iff a b) h = tt
 new-terms w (node.Xor a b) h = tt
 new-terms w (node.Exists v a) h = tt
 
-new-variables : (w : Work) (n : Node) → AreBelow w.formula w.given → IsNewNode w n → AllByRecursion (λ v. v < w.given) (free_variables (node_tree (tree_of w.formula) n))
+new-variables : (w : Work) (n : Node) → AreBelow w.formula (length w.given) → IsNewNode w n → AllByRecursion (λ v. v < length w.given) (free_variables (node_tree (tree_of w.formula) n))
 new-variables w node.True below h = tt
 new-variables w node.False below h = tt
-new-variables w (node.Atom kind terms c) below h = all_terms w.given terms h.1
-new-variables w (node.Not a) below h = variables_below w.formula w.given a below h
-new-variables w (node.And a b) below h = op_below w.formula w.given op.And a b below h.0 h.1
-new-variables w (node.Or a b) below h = op_below w.formula w.given op.Or a b below h.0 h.1
-new-variables w (node.Iff a b) below h = op_below w.formula w.given op.Iff a b below h.0 h.1
-new-variables w (node.Xor a b) below h = op_below w.formula w.given op.Xor a b below h.0 h.1
-new-variables w (node.Exists v a) below h = exists_below w.formula w.given v a below h.1
+new-variables w (node.Atom kind terms c) below h = all_terms (length w.given) terms (sorted-below w.given kind terms c h.1)
+new-variables w (node.Not a) below h = variables_below w.formula (length w.given) a below h
+new-variables w (node.And a b) below h = op_below w.formula (length w.given) op.And a b below h.0 h.1
+new-variables w (node.Or a b) below h = op_below w.formula (length w.given) op.Or a b below h.0 h.1
+new-variables w (node.Iff a b) below h = op_below w.formula (length w.given) op.Iff a b below h.0 h.1
+new-variables w (node.Xor a b) below h = op_below w.formula (length w.given) op.Xor a b below h.0 h.1
+new-variables w (node.Exists v a) below h = exists_below w.formula (length w.given) v a below h.1
 
-new-bound : (w : Work) (n : Node) → IsNewNode w n → BindsBelow w.given n
+new-bound : (w : Work) (n : Node) → IsNewNode w n → BindsBelow (length w.given) n
 new-bound w node.True h = tt
 new-bound w node.False h = tt
 new-bound w (node.Atom kind terms c) h = tt
@@ -148,6 +150,17 @@ new-bound w (node.Or a b) h = tt
 new-bound w (node.Iff a b) h = tt
 new-bound w (node.Xor a b) h = tt
 new-bound w (node.Exists v a) h = h.0
+
+new-sorted : (w : Work) (n : Node) → IsNewNode w n → IsSorted w.given n
+new-sorted w node.True h = tt
+new-sorted w node.False h = tt
+new-sorted w (node.Atom kind terms c) h = h.1
+new-sorted w (node.Not a) h = tt
+new-sorted w (node.And a b) h = tt
+new-sorted w (node.Or a b) h = tt
+new-sorted w (node.Iff a b) h = tt
+new-sorted w (node.Xor a b) h = tt
+new-sorted w (node.Exists v a) h = tt
 
 keeps-built : Laws → (n : Node) (p : Position) (w w' : Work) (i : ℕ) → IsNewNode w n → IsSoundWork w → built w.given p (made n p w.formula) ≡ Ok (i, w') → IsSoundWork w' × Grows w w' × IsNodeIn i w'
 keeps-built laws n p w w' i fits sound e = through (nat_lt MAX_TRACKS (length (free_variables (node_tree (tree_of w.formula) n)))) refl (nat_le MAX_NODES (length w.formula)) refl e
@@ -168,17 +181,18 @@ keeps-built laws n p w w' i fits sound e = through (nat_lt MAX_TRACKS (length (f
         let whole : IsFormula (w.formula ++ (n, p) ∷ []) = appended laws w.formula n p sound.formula (new-children w n fits) (new-terms w n fits) tracks nodes in (
           subst IsSoundWork here (record {
             formula = whole;
-            below = appended_below w.formula n p w.given sound.formula whole sound.below (new-variables w n sound.below fits) (new-bound w n fits)
+            below = appended_below w.formula n p (length w.given) sound.formula whole sound.below (new-variables w n sound.below fits) (new-bound w n fits)
                 (λ j lt. laws.nodes w.formula ((n, p) ∷ []) j lt) (λ j lt. laws.trees w.formula ((n, p) ∷ []) j sound.formula lt) (λ j. laws.parts (w.formula ++ (n, p) ∷ []) j whole);
+            sorted = appended-sorted w.given w.formula n p sound.sorted (new-sorted w n fits);
           }),
-          subst (Grows w) here (record { nodes = ((n, p) ∷ [], refl); count = omega (arith, length-append w.formula ((n, p) ∷ [])); given = omega arith }),
+          subst (Grows w) here (record { nodes = ((n, p) ∷ [], refl); count = omega (arith, length-append w.formula ((n, p) ∷ [])); sorts = ([], sym (append-nil w.given)); given = omega arith }),
           subst (IsNodeIn i) here (omega (arith, what, length-append w.formula ((n, p) ∷ []))),
         )
 
 pub keeps-make : Laws → (n : Node) (p : Position) (w : Work) → IsNewNode w n → Keeps IsNodeIn (make n p) w
 keeps-make laws n p w fits sound w' i e = keeps-built laws n p w w' i fits sound e
 
-pub keeps-exists : Laws → (v a : ℕ) (p : Position) (w : Work) → v < w.given → IsNodeIn a w → Keeps IsNodeIn (make_exists v a p) w
+pub keeps-exists : Laws → (v a : ℕ) (p : Position) (w : Work) → v < length w.given → IsNodeIn a w → Keeps IsNodeIn (make_exists v a p) w
 keeps-exists laws v a p w lt in-w sound w' i e = through (contains v (variables_of w.formula a)) e
   where
     through : (b : Bool) → built w.given p (if b then made (node.Exists v a) p w.formula else Ok (a, w.formula)) ≡ Ok (i, w') → IsSoundWork w' × Grows w w' × IsNodeIn i w'

@@ -1,13 +1,16 @@
 -- Steps of elaboration that keep the work sound, one after the other.
-use Rattle.std.proofs.Common.{◌≡◌, ℕ, ◌+◌, ◌<◌, Bool, true, false, List, [], ◌∷◌, arith, refl, sym, ap, subst, append-nil}
+use Rattle.std.proofs.Common.{◌≡◌, ℕ, ◌+◌, ◌<◌, Bool, true, false, List, [], ◌∷◌, ◌++◌, length, arith, refl, ap, subst, length-append}
 use Rattle.std.specs.Prelude.{Result, Ok, Err}
 use Rattle.std.specs.List.{AllByRecursion}
 use Rattle.pt_formula.specs.declared.node.Position.{Position}
 use Rattle.pt_syntax.specs.declared.kinds.ReadKind.{ReadKind}
 use Rattle.pt_syntax.specs.declared.kinds.ReadRefusal.{ReadRefusal}
+use Rattle.pt_terms.specs.declared.meaning.Sort.{Sort as VariableSort}
+use Rattle.pt_terms.specs.Sorts.{HasSort}
 use Rattle.pt_terms.specs.Elaboration.{Work, Elab, give, refuse, follow, ◌>>=◌, require, fresh, each}
 use Rattle.pt_terms.specs.Gives.{Grows}
 use Rattle.pt_terms.specs.Keeps.{IsSoundWork, Keeps}
+use Rattle.pt_terms.proofs.SortLemmas.{has-last, all-sorted-more, fresh-grows}
 use Rattle.pt_terms.proofs.BelowLemmas.{grows_same, grows_trans}
 
 -- what holds of the work holds while it grows
@@ -45,18 +48,28 @@ pub keeps-require : (b : Bool) (kind : ReadKind) (p : Position) (w : Work) → K
 keeps-require true kind p w = keeps-give (λ _ u. true ≡ true) tt w refl
 keeps-require false kind p w = keeps-refuse (λ _ u. false ≡ true) kind p w
 
-pub keeps-fresh : (w : Work) → Keeps (λ v u. v < u.given) fresh w
-keeps-fresh w sound w' v e =
-    let pair : ◌≡◌ {A = ℕ × Work} (w.given, next) (v, w') = cc in
+pub keeps-fresh : (s : VariableSort) (w : Work) → Keeps (λ v u. HasSort u.given v s) (fresh s) w
+keeps-fresh s w sound w' v e =
+    let pair : ◌≡◌ {A = ℕ × Work} (length w.given, next) (v, w') = cc in
     let here : next ≡ w' = ap (λ (q : ℕ × Work). q.1) pair in
-    let what : w.given ≡ v = ap (λ (q : ℕ × Work). q.0) pair in (
-      subst IsSoundWork here (record { formula = sound.formula; below = record { free = λ i u lt c. let less : u < w.given = sound.below.free i u lt c in omega arith; bound = λ i u a at. let less : u < w.given = sound.below.bound i u a at in omega arith } }),
-      subst (Grows w) here (record { nodes = ([], sym (append-nil w.formula)); count = omega arith; given = omega arith }),
-      subst (λ (u : Work). v < u.given) here (omega (arith, what)),
+    let what : length w.given ≡ v = ap (λ (q : ℕ × Work). q.0) pair in (
+      subst IsSoundWork here (record {
+        formula = sound.formula;
+        below = record { free = λ i u lt c. let less : u < length w.given = sound.below.free i u lt c in omega (arith, less, longer); bound = λ i u a at. let less : u < length w.given = sound.below.bound i u a at in omega (arith, less, longer) };
+        sorted = all-sorted-more w next w.formula grows sound.sorted;
+      }),
+      subst (Grows w) here grows,
+      subst (λ (u : Work). HasSort u.given v s) here (subst (λ k. HasSort next.given k s) what (has-last w.given s)),
     )
   where
     next : Work
-    next = record { formula = w.formula; given = w.given + 1 }
+    next = record { formula = w.formula; given = w.given ++ s ∷ [] }
+
+    longer : length (w.given ++ s ∷ []) ≡ length w.given + 1
+    longer = length-append w.given (s ∷ [])
+
+    grows : Grows w next
+    grows = fresh-grows w s
 
 -- one step for each, in order
 pub keeps-each : {A B : Type 0} (C : A → Work → Type 0) (P : B → Work → Type 0) (f : A → Elab B) → Lasts C → Lasts P → ((x : A) (u : Work) → C x u → Keeps P (f x) u) → (xs : List A) (w : Work) → All C xs w → Keeps (All P) (each f xs) w

@@ -1,5 +1,5 @@
 -- Terms keep the work sound.
-use Rattle.std.proofs.Common.{◌≡◌, ℕ, zero, suc, ◌<◌, ◌≤◌, ◌==◌, nat_lt, not, Bool, true, false, ◌||◌, if◌then◌else◌, List, [], ◌∷◌, ◌++◌, map, arith}
+use Rattle.std.proofs.Common.{◌≡◌, inr, refl, ℕ, zero, suc, ◌<◌, ◌≤◌, ◌==◌, nat_lt, not, Bool, true, false, ◌||◌, if◌then◌else◌, List, [], ◌∷◌, ◌++◌, map, arith}
 use Rattle.std.proofs.lemmas.Bool.Decides.{nat_tests}
 use Rattle.std.specs.Prelude.{Option, Some, None, pos, ⊤, ◌^◌, bytes_eq, codes}
 use Rattle.std.specs.List.{AllByRecursion}
@@ -16,6 +16,10 @@ use Rattle.pt_syntax.specs.declared.kinds.ReadKind.TheVariants.{Syntax, Unknown,
 use Rattle.pt_syntax.specs.Bytes.{numeral_value}
 use Rattle.pt_terms.specs.declared.meaning.Meaning.{Meaning}
 use Rattle.pt_terms.specs.declared.meaning.Meaning.TheVariants.{Int}
+use Rattle.pt_terms.specs.declared.meaning.Sort.{Sort as VariableSort}
+use Rattle.pt_terms.specs.declared.meaning.Sort.TheVariants as sort
+use Rattle.pt_terms.specs.declared.meaning.Bound.{Bound}
+use Rattle.pt_terms.specs.declared.meaning.Bound.TheVariants.{Variable, Term as Standing}
 use Rattle.pt_terms.specs.Elaboration.{Work, Elab, give, refuse, ◌>>=◌, require, make, make_exists, fresh, each, constant_form, variable_form}
 use Rattle.pt_grammar.specs.Words.{Name, head_of, is_reserved, is_among}
 use Rattle.pt_grammar.specs.declared.words.Head.TheVariants as word
@@ -23,31 +27,33 @@ use Rattle.pt_grammar.specs.declared.words.Head.{Head}
 use Rattle.pt_grammar.specs.Exprs
 use Rattle.pt_grammar.specs.Exprs.{place_of, symbol_of, items_of}
 use Rattle.pt_grammar.specs.Forms
-use Rattle.pt_terms.specs.Names.{Use, Constant_of, Defined, Symbol as LiveSymbol, find_symbol, Env, bind, look_up, use_of, find_bound, plain_use, head_use}
+use Rattle.pt_terms.specs.Names.{Use, Constant_of, Defined, Symbol as LiveSymbol, find_symbol, Env, bind, look_up, use_of, find_bound, variable_term, plain_use, head_use}
 use Rattle.pt_terms.specs.Theory
 use Rattle.pt_terms.specs.Theory.{Argument, truth_of, as_truth}
 use Rattle.pt_terms.specs.Terms
-use Rattle.pt_terms.specs.Sound.{IsMeaningIn, IsUseIn, IsEnvIn}
+use Rattle.pt_terms.specs.Sorts.{HasSort, truth_atom}
+use Rattle.pt_terms.specs.Sound.{IsUseIn, IsBoundIn, IsEnvIn}
 use Rattle.pt_terms.specs.Keeps.{Keeps, IsNodeIn, TermsKeep}
-use Rattle.pt_terms.proofs.Ranges.{env_more}
+use Rattle.pt_terms.proofs.SortLemmas.{has-below, has-more}
+use Rattle.pt_terms.proofs.Ranges.{bound_more, env_more}
 use Rattle.pt_terms.proofs.KeepSteps.{Lasts, All, all-lasts, keeps-give, keeps-refuse, keeps-then, keeps-require, keeps-fresh, keeps-each}
 use Rattle.pt_terms.proofs.KeepNodes.{Laws, keeps-make, keeps-exists}
 use Rattle.pt_terms.proofs.KeepForms.{variable-form-in, constant-form-in, number-fits}
-use Rattle.pt_terms.proofs.KeepTheory.{IsIn, IsArgumentIn, meaning-lasts, argument-lasts, keeps-truth-of, keeps-as-truth, keeps-apply, keeps-divides}
-use Rattle.pt_terms.proofs.KeepCopies.{keeps-call}
+use Rattle.pt_terms.proofs.KeepTheory.{IsIn, IsArgumentIn, argument-lasts, keeps-truth-of, keeps-as-truth, keeps-apply, keeps-divides}
+use Rattle.pt_terms.proofs.KeepCopies.{IsDefinitionIn, definition-lasts, keeps-call}
 
 all-join : {A : Type 0} (P : A → Type 0) (xs ys : List A) → AllByRecursion P xs → AllByRecursion P ys → AllByRecursion P (xs ++ ys)
 all-join P [] ys h k = k
 all-join P (x ∷ xs) ys h k = (h.0, all-join P xs ys h.1 k)
 
-abbrev AreBindingsIn : List (Name × Meaning) → Work → Type 0
-AreBindingsIn bs w = AllByRecursion (λ (b : Name × Meaning). IsMeaningIn w b.1) bs
+abbrev AreBindingsIn : List (Name × Bound) → Work → Type 0
+AreBindingsIn bs w = AllByRecursion (λ (b : Name × Bound). IsBoundIn w b.1) bs
 
-bindings-last : Lasts {A = List (Name × Meaning)} AreBindingsIn
-bindings-last bs v w g h = all-lasts (λ (b : Name × Meaning) u. IsMeaningIn u b.1) (λ b v w g k. meaning-lasts b.1 v w g k) bs v w g h
+bindings-last : Lasts {A = List (Name × Bound)} AreBindingsIn
+bindings-last bs v w g h = all-lasts (λ (b : Name × Bound) u. IsBoundIn u b.1) (λ b v w g k. bound_more v w b.1 g k) bs v w g h
 
-env-bind : (bs : List (Name × Meaning)) (env : Env) (w : Work) → AreBindingsIn bs w → IsEnvIn w env → IsEnvIn w (bind bs env)
-env-bind bs env w h k = record { bound = all-join (λ (b : Name × Meaning). IsMeaningIn w b.1) bs env.bound h k.bound; live = k.live }
+env-bind : (bs : List (Name × Bound)) (env : Env) (w : Work) → AreBindingsIn bs w → IsEnvIn w env → IsEnvIn w (bind bs env)
+env-bind bs env w h k = record { bound = all-join (λ (b : Name × Bound). IsBoundIn w b.1) bs env.bound h k.bound; live = k.live }
 
 -- ---- names
 
@@ -55,12 +61,16 @@ abbrev IsFoundIn : Option Use → Work → Type 0
 IsFoundIn None w = ⊤
 IsFoundIn (Some u) w = IsUseIn w u
 
-found-bound : (bs : List (Name × Meaning)) (name : Name) (live : Option Use) (w : Work) → AreBindingsIn bs w → IsFoundIn live w → IsFoundIn (use_of (find_bound bs name) live) w
+found-bound : (bs : List (Name × Bound)) (name : Name) (live : Option Use) (w : Work) → AreBindingsIn bs w → IsFoundIn live w → IsFoundIn (use_of (find_bound bs name) live) w
 found-bound [] name live w h k = k
 found-bound (b ∷ bs) name live w h k = by-test (bytes_eq b.0 name) (found-bound bs name live w h.1 k)
   where
+    here : (x : Bound) → IsBoundIn w x → IsFoundIn (use_of (Some x) live) w
+    here (Variable v s) k = k
+    here (Standing m) k = (k, tt)
+
     by-test : (t : Bool) → IsFoundIn (use_of (find_bound bs name) live) w → IsFoundIn (use_of (if t then Some b.1 else find_bound bs name) live) w
-    by-test true go = (h.0, tt)
+    by-test true go = here b.1 h.0
     by-test false go = go
 
 found-live : (ss : List LiveSymbol) (name : Name) (w : Work) → AllByRecursion (λ (s : LiveSymbol). IsUseIn w s.stands_for) ss → IsFoundIn (find_symbol ss name) w
@@ -74,20 +84,22 @@ found-live (s ∷ ss) name w h = by-test (bytes_eq s.name name) (found-live ss n
 found : (env : Env) (name : Name) (w : Work) → IsEnvIn w env → IsFoundIn (look_up env name) w
 found env name w h = found-bound env.bound name (find_symbol env.live name) w h.bound (found-live env.live name w h.live)
 
-keeps-plain-use : (p : Position) (u : Option Use) (w : Work) → IsFoundIn u w → Keeps IsIn (plain_use p u) w
-keeps-plain-use p None w h = keeps-refuse IsIn Unknown p w
-keeps-plain-use p (Some (Constant_of v)) w h = keeps-give IsIn (Int (variable_form v)) w (variable-form-in v w h)
-keeps-plain-use p (Some (Defined [] m)) w h = keeps-give IsIn m w h.0
-keeps-plain-use p (Some (Defined (v ∷ vs) m)) w h = keeps-refuse IsIn Sort p w
+keeps-variable-term : Laws → (p : Position) (v : ℕ) (s : VariableSort) (w : Work) → HasSort w.given v s → Keeps IsIn (variable_term p v s) w
+keeps-variable-term laws p v sort.Int w h = keeps-give IsIn (Int (variable_form v)) w (variable-form-in v w h)
+keeps-variable-term laws p v sort.Bool w h =
+    keeps-as-truth (make (truth_atom v) p) w (keeps-make laws (truth_atom v) p w ((omega arith, ((tt, tt), (refl, tt)), (omega arith, omega arith)), inr (v, h, refl)))
 
-abbrev IsDefinitionIn : List ℕ × Meaning → Work → Type 0
-IsDefinitionIn d w = IsMeaningIn w d.1
+keeps-plain-use : Laws → (p : Position) (u : Option Use) (w : Work) → IsFoundIn u w → Keeps IsIn (plain_use p u) w
+keeps-plain-use laws p None w h = keeps-refuse IsIn Unknown p w
+keeps-plain-use laws p (Some (Constant_of v s)) w h = keeps-variable-term laws p v s w h
+keeps-plain-use laws p (Some (Defined [] ss m)) w h = keeps-give IsIn m w h.0
+keeps-plain-use laws p (Some (Defined (v ∷ vs) ss m)) w h = keeps-refuse IsIn Sort p w
 
 keeps-head-use : (p : Position) (u : Option Use) (w : Work) → IsFoundIn u w → Keeps IsDefinitionIn (head_use p u) w
 keeps-head-use p None w h = keeps-refuse IsDefinitionIn Unknown p w
-keeps-head-use p (Some (Constant_of v)) w h = keeps-refuse IsDefinitionIn Sort p w
-keeps-head-use p (Some (Defined [] m)) w h = keeps-refuse IsDefinitionIn Sort p w
-keeps-head-use p (Some (Defined (v ∷ vs) m)) w h = keeps-give IsDefinitionIn (v ∷ vs, m) w h.0
+keeps-head-use p (Some (Constant_of v s)) w h = keeps-refuse IsDefinitionIn Sort p w
+keeps-head-use p (Some (Defined [] ss m)) w h = keeps-refuse IsDefinitionIn Sort p w
+keeps-head-use p (Some (Defined (v ∷ vs) ss m)) w h = keeps-give IsDefinitionIn (v ∷ vs, ss, m) w h
 
 -- ---- binders
 
@@ -111,59 +123,64 @@ keeps-pair P (Some (a ∷ [])) p f w h = keeps-refuse P Syntax p w
 keeps-pair P (Some (a ∷ b ∷ [])) p f w h = h a b
 keeps-pair P (Some (a ∷ b ∷ c ∷ more)) p f w h = keeps-refuse P Syntax p w
 
-abbrev IsBindingIn : Name × Meaning → Work → Type 0
-IsBindingIn b w = IsMeaningIn w b.1
+abbrev IsBindingIn : Name × Bound → Work → Type 0
+IsBindingIn b w = IsBoundIn w b.1
 
 keeps-binding : (term : Env → SExpr → Elab Meaning) → AreKept term → (env : Env) (taken : List Name) (e : SExpr) (w : Work) → IsEnvIn w env → Keeps IsBindingIn (Terms.binding (term env) taken e) w
 keeps-binding term kept env taken e w h =
-    keeps-pair IsBindingIn (items_of e) (place_of e) (λ s t. Terms.bindable taken s >>= λ name. term env t >>= λ m. give (name, m)) w
-    (λ s t. keeps-then Anything IsBindingIn (Terms.bindable taken s) (λ name. term env t >>= λ m. give (name, m)) w (keeps-bindable taken s w)
-    (λ name u g k. keeps-then IsIn IsBindingIn (term env t) (λ m. give (name, m)) u (kept env t u (env_more w u env g h)) (λ m v g' d. keeps-give IsBindingIn (name, m) v d)))
+    keeps-pair IsBindingIn (items_of e) (place_of e) (λ s t. Terms.bindable taken s >>= λ name. term env t >>= λ m. give (name, Standing m)) w
+    (λ s t. keeps-then Anything IsBindingIn (Terms.bindable taken s) (λ name. term env t >>= λ m. give (name, Standing m)) w (keeps-bindable taken s w)
+    (λ name u g k. keeps-then IsIn IsBindingIn (term env t) (λ m. give (name, Standing m)) u (kept env t u (env_more w u env g h)) (λ m v g' d. keeps-give IsBindingIn (name, Standing m) v d)))
 
-keeps-bindings : (term : Env → SExpr → Elab Meaning) → AreKept term → (env : Env) (done : List (Name × Meaning)) (es : List SExpr) (w : Work) → IsEnvIn w env → AreBindingsIn done w → Keeps AreBindingsIn (Terms.bindings (term env) done es) w
+keeps-bindings : (term : Env → SExpr → Elab Meaning) → AreKept term → (env : Env) (done : List (Name × Bound)) (es : List SExpr) (w : Work) → IsEnvIn w env → AreBindingsIn done w → Keeps AreBindingsIn (Terms.bindings (term env) done es) w
 keeps-bindings term kept env done [] w h k = keeps-give AreBindingsIn done w k
 keeps-bindings term kept env done (e ∷ es) w h k =
     keeps-then IsBindingIn AreBindingsIn (Terms.binding (term env) (map (λ b. b.0) done) e) (λ b. Terms.bindings (term env) (b ∷ done) es) w (keeps-binding term kept env (map (λ b. b.0) done) e w h)
     (λ b u g d. keeps-bindings term kept env (b ∷ done) es u (env_more w u env g h) (d, bindings-last done w u g k))
 
-pub keeps-int-sort : (e : SExpr) (w : Work) → Keeps Anything (Terms.int_sort e) w
-keeps-int-sort e w sound w' x eq = let k = keeps-require (bytes_eq (Exprs.name_of (symbol_of e)) (codes "Int")) Unsupported (place_of e) w sound w' x eq in (k.0, k.1, tt)
+pub keeps-named-sort : (e : SExpr) (w : Work) → Keeps Anything (Terms.named_sort e) w
+keeps-named-sort e w = by-name (bytes_eq (Exprs.name_of (symbol_of e)) (codes "Int")) (bytes_eq (Exprs.name_of (symbol_of e)) (codes "Bool"))
+  where
+    by-name : (a b : Bool) → Keeps Anything (if a then give sort.Int else if b then give sort.Bool else refuse Unsupported (place_of e)) w
+    by-name true b = keeps-give Anything sort.Int w tt
+    by-name false true = keeps-give Anything sort.Bool w tt
+    by-name false false = keeps-refuse Anything Unsupported (place_of e) w
 
-abbrev IsVariableIn : Name × ℕ → Work → Type 0
-IsVariableIn x w = x.1 < w.given
+abbrev IsVariableIn : Name × ℕ × VariableSort → Work → Type 0
+IsVariableIn x w = HasSort w.given x.1 x.2
 
-variable-lasts : Lasts {A = Name × ℕ} IsVariableIn
-variable-lasts x v w g h = omega (arith, h, g.given)
+variable-lasts : Lasts {A = Name × ℕ × VariableSort} IsVariableIn
+variable-lasts x v w g h = has-more v w x.1 x.2 g h
 
 keeps-variable : (taken : List Name) (e : SExpr) (w : Work) → Keeps IsVariableIn (Terms.variable taken e) w
 keeps-variable taken e w =
-    keeps-pair IsVariableIn (items_of e) (place_of e) (λ s sort. Terms.bindable taken s >>= λ name. Terms.int_sort sort >>= λ _. fresh >>= λ v. give (name, v)) w
-    (λ s sort. keeps-then Anything IsVariableIn (Terms.bindable taken s) (λ name. Terms.int_sort sort >>= λ _. fresh >>= λ v. give (name, v)) w (keeps-bindable taken s w)
-    (λ name u g k. keeps-then Anything IsVariableIn (Terms.int_sort sort) (λ _. fresh >>= λ v. give (name, v)) u (keeps-int-sort sort u)
-    (λ _ v g' d. keeps-then (λ i x. i < x.given) IsVariableIn fresh (λ i. give (name, i)) v (keeps-fresh v) (λ i x g'' lt. keeps-give IsVariableIn (name, i) x lt))))
+    keeps-pair IsVariableIn (items_of e) (place_of e) (λ s t. Terms.bindable taken s >>= λ name. Terms.named_sort t >>= λ x. fresh x >>= λ v. give (name, v, x)) w
+    (λ s t. keeps-then Anything IsVariableIn (Terms.bindable taken s) (λ name. Terms.named_sort t >>= λ x. fresh x >>= λ v. give (name, v, x)) w (keeps-bindable taken s w)
+    (λ name u g k. keeps-then Anything IsVariableIn (Terms.named_sort t) (λ x. fresh x >>= λ v. give (name, v, x)) u (keeps-named-sort t u)
+    (λ x v g' d. keeps-then (λ i y. HasSort y.given i x) IsVariableIn (fresh x) (λ i. give (name, i, x)) v (keeps-fresh x v) (λ i y g'' has. keeps-give IsVariableIn (name, i, x) y has))))
 
-keeps-variables : (done : List (Name × ℕ)) (es : List SExpr) (w : Work) → All IsVariableIn done w → Keeps (All IsVariableIn) (Terms.variables done es) w
+keeps-variables : (done : List (Name × ℕ × VariableSort)) (es : List SExpr) (w : Work) → All IsVariableIn done w → Keeps (All IsVariableIn) (Terms.variables done es) w
 keeps-variables done [] w h = keeps-give (All IsVariableIn) done w h
 keeps-variables done (e ∷ es) w h =
     keeps-then IsVariableIn (All IsVariableIn) (Terms.variable [] e) (λ x. Terms.variables (x ∷ done) es) w (keeps-variable [] e w)
     (λ x u g k. keeps-variables (x ∷ done) es u (k, all-lasts IsVariableIn variable-lasts done w u g h))
 
-keeps-exists-all : Laws → (p : Position) (xs : List (Name × ℕ)) (a : ℕ) (w : Work) → All IsVariableIn xs w → IsNodeIn a w → Keeps IsNodeIn (Terms.exists_all p xs a) w
+keeps-exists-all : Laws → (p : Position) (xs : List (Name × ℕ × VariableSort)) (a : ℕ) (w : Work) → All IsVariableIn xs w → IsNodeIn a w → Keeps IsNodeIn (Terms.exists_all p xs a) w
 keeps-exists-all laws p [] a w h k = keeps-give IsNodeIn a w k
 keeps-exists-all laws p (x ∷ xs) a w h k =
-    keeps-then IsNodeIn IsNodeIn (make_exists x.1 a p) (λ b. Terms.exists_all p xs b) w (keeps-exists laws x.1 a p w h.0 k)
+    keeps-then IsNodeIn IsNodeIn (make_exists x.1 a p) (λ b. Terms.exists_all p xs b) w (keeps-exists laws x.1 a p w (has-below w.given x.1 x.2 h.0) k)
     (λ b u g d. keeps-exists-all laws p xs b u (all-lasts IsVariableIn variable-lasts xs w u g h.1) d)
 
-keeps-quantified : Laws → (is_exists : Bool) (p : Position) (xs : List (Name × ℕ)) (a : ℕ) (w : Work) → All IsVariableIn xs w → IsNodeIn a w → Keeps IsNodeIn (Terms.quantified is_exists p xs a) w
+keeps-quantified : Laws → (is_exists : Bool) (p : Position) (xs : List (Name × ℕ × VariableSort)) (a : ℕ) (w : Work) → All IsVariableIn xs w → IsNodeIn a w → Keeps IsNodeIn (Terms.quantified is_exists p xs a) w
 keeps-quantified laws true p xs a w h k = keeps-exists-all laws p xs a w h k
 keeps-quantified laws false p xs a w h k =
     keeps-then IsNodeIn IsNodeIn (make (node.Not a) p) (λ b. Terms.exists_all p xs b >>= λ c. make (node.Not c) p) w (keeps-make laws (node.Not a) p w k)
     (λ b u g d. keeps-then IsNodeIn IsNodeIn (Terms.exists_all p xs b) (λ c. make (node.Not c) p) u (keeps-exists-all laws p xs b u (all-lasts IsVariableIn variable-lasts xs w u g h) d)
     (λ c v g' i. keeps-make laws (node.Not c) p v i))
 
-bound-variables : (xs : List (Name × ℕ)) (w : Work) → All IsVariableIn xs w → AreBindingsIn (map Terms.as_bound xs) w
+bound-variables : (xs : List (Name × ℕ × VariableSort)) (w : Work) → All IsVariableIn xs w → AreBindingsIn (map Terms.as_bound xs) w
 bound-variables [] w h = tt
-bound-variables (x ∷ xs) w h = (variable-form-in x.1 w h.0, bound-variables xs w h.1)
+bound-variables (x ∷ xs) w h = (h.0, bound-variables xs w h.1)
 
 keeps-quantifier : Laws → (term : Env → SExpr → Elab Meaning) → AreKept term → (env : Env) (is_exists : Bool) (p : Position) (items : List SExpr) (w : Work) → IsEnvIn w env → Keeps IsIn (Terms.quantifier term env is_exists p items) w
 keeps-quantifier laws term kept env is_exists p [] w h = keeps-refuse IsIn Syntax p w
@@ -205,7 +222,7 @@ keeps-leaf laws env p (Symbol name) w h = by-name (bytes_eq name (codes "true"))
     by-name : (a b : Bool) → Keeps IsIn (if a then as_truth (make node.True p) else if b then as_truth (make node.False p) else plain_use p (look_up env name)) w
     by-name true b = keeps-as-truth (make node.True p) w (keeps-make laws node.True p w tt)
     by-name false true = keeps-as-truth (make node.False p) w (keeps-make laws node.False p w tt)
-    by-name false false = keeps-plain-use p (look_up env name) w (found env name w h)
+    by-name false false = keeps-plain-use laws p (look_up env name) w (found env name w h)
 keeps-leaf laws env p Constant w h = keeps-refuse IsIn Unsupported p w
 keeps-leaf laws env p (Text literal) w h = keeps-refuse IsIn Unsupported p w
 keeps-leaf laws env p (Keyword name) w h = keeps-refuse IsIn Syntax p w
@@ -234,7 +251,7 @@ keeps-applied laws term kept env p q name word.LeftOut items w h = keeps-refuse 
 keeps-applied laws term kept env p q name word.Named items w h =
     keeps-then IsDefinitionIn IsIn (head_use q (look_up env name)) (λ d. each (Terms.argument (term env)) items >>= λ xs. Theory.call p d xs) w (keeps-head-use q (look_up env name) w (found env name w h))
     (λ d u g k. keeps-then (All IsArgumentIn) IsIn (each (Terms.argument (term env)) items) (λ xs. Theory.call p d xs) u (keeps-arguments term kept env items u (env_more w u env g h))
-    (λ xs v g' all. keeps-call laws p d xs v (meaning-lasts d.1 u v g' k) all))
+    (λ xs v g' all. keeps-call laws p d xs v (definition-lasts d u v g' k) all))
 keeps-applied laws term kept env p q name (word.Apply operator) items w h = keeps-with-arguments term kept env items (Theory.apply p operator) (keeps-apply laws p operator) w h
 
 abbrev IsNumberModulus : ℕ → Work → Type 0

@@ -1,5 +1,5 @@
 -- Applications of the symbols of the theories keep the work sound.
-use Rattle.std.proofs.Common.{ℕ, Bool, true, false, not, if◌then◌else◌, List, [], ◌∷◌, ◌++◌, map, arith}
+use Rattle.std.proofs.Common.{inl, ℕ, Bool, true, false, not, if◌then◌else◌, List, [], ◌∷◌, ◌++◌, map, arith}
 use Rattle.std.specs.Prelude.{ℤ, pos, negsuc, neg_ℤ, ◌-ℤ◌}
 use Rattle.std.specs.Int.{int_rem_euclid}
 use Rattle.pt_atoms.specs.Atoms.{IsModulus}
@@ -22,7 +22,8 @@ use Rattle.pt_terms.specs.declared.meaning.Meaning.TheVariants.{Int, Bool as Tru
 use Rattle.pt_terms.specs.Elaboration.{Work, Elab, give, refuse, ◌>>=◌, make, form, each}
 use Rattle.pt_terms.specs.Theory
 use Rattle.pt_terms.specs.Theory.{Argument}
-use Rattle.pt_terms.specs.Sound.{AreTermsBelow, IsMeaningIn}
+use Rattle.pt_terms.specs.Sorts.{AreIntegers}
+use Rattle.pt_terms.specs.Sound.{IsMeaningIn}
 use Rattle.pt_terms.specs.Keeps.{Keeps, IsNodeIn}
 use Rattle.pt_terms.proofs.Ranges.{form_more, node_more, meaning_more}
 use Rattle.pt_terms.proofs.KeepSteps.{Lasts, All, all-lasts, keeps-give, keeps-refuse, keeps-then, keeps-each}
@@ -103,7 +104,7 @@ keeps-choice laws p c a b w hc ha hb =
 
 -- ---- relations
 
-pub keeps-atom : Laws → (p : Position) (kind : Kind) (ts : List Term) (c : ℤ) (w : Work) → AreTerms ts → AreTermsBelow w.given ts → IsModulus kind → Keeps IsNodeIn (Theory.atom p kind ts c) w
+pub keeps-atom : Laws → (p : Position) (kind : Kind) (ts : List Term) (c : ℤ) (w : Work) → AreTerms ts → AreIntegers w.given ts → IsModulus kind → Keeps IsNodeIn (Theory.atom p kind ts c) w
 keeps-atom laws p kind [] c w terms below modulus = by-truth (Theory.zero_compares kind c)
   where
     by-truth : (b : Bool) → Keeps IsNodeIn (make (truth_node b) p) w
@@ -112,7 +113,7 @@ keeps-atom laws p kind [] c w terms below modulus = by-truth (Theory.zero_compar
 keeps-atom laws p kind (t ∷ ts) c w terms below modulus = by-size (fits c)
   where
     by-size : (b : Bool) → Keeps IsNodeIn (if b then make (node.Atom kind (t ∷ ts) c) p else refuse Coefficient p) w
-    by-size true = keeps-make laws (node.Atom kind (t ∷ ts) c) p w ((omega arith, terms, modulus), below)
+    by-size true = keeps-make laws (node.Atom kind (t ∷ ts) c) p w ((omega arith, terms, modulus), inl below)
     by-size false = keeps-refuse IsNodeIn Coefficient p w
 
 keeps-compared : Laws → (p : Position) (r : Relation) (f : Form) (w : Work) → IsFormIn f w → Keeps IsNodeIn (Theory.compared p r f) w

@@ -1,7 +1,8 @@
 pub mod SymbolLemmas
 pub mod ConstantLemmas
 pub mod BelowLemmas
-pub mod BelowForms
+pub mod SortLemmas
+pub mod ReplacedVariables
 pub mod Ranges
 pub mod Chaining
 pub mod Steps
@@ -12,6 +13,8 @@ pub mod BoundNames
 pub mod EnvLemmas
 pub mod Rows
 pub mod TermSteps
+pub mod VariableSteps
+pub mod SymbolTerms
 pub mod FreeSteps
 pub mod FreeNodes
 pub mod FreeTerms
@@ -32,4 +35,7 @@ pub mod KeepNodes
 pub mod KeepForms
 pub mod KeepTheory
 pub mod KeepCopies
+pub mod ReplacedParameters
+pub mod IntegerCopies
 pub mod KeepTerms
+pub mod SortedTrees

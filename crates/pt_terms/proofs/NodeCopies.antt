@@ -6,7 +6,7 @@ use Rattle.std.proofs.lemmas.Bool.Decides.{nat_tests}
 use Rattle.pt_formula.specs.declared.node.Node.{Node}
 use Rattle.pt_formula.specs.declared.node.Node.TheVariants as node
 use Rattle.pt_formula.specs.declared.node.Position.{Position}
-use Rattle.pt_formula.specs.declared.form.Form.{Form}
+use Rattle.pt_terms.specs.declared.meaning.Meaning.{Meaning}
 use Rattle.pt_formula.specs.Formulas.{node_at, entry_node}
 use Rattle.pt_syntax.specs.declared.kinds.ReadRefusal.{ReadRefusal}
 use Rattle.pt_terms.specs.Elaboration.{Work, Elab, give, follow, ◌>>=◌}
@@ -27,13 +27,13 @@ slice_get-before (x ∷ xs) ys (suc i) h = slice_get-before xs ys i (omega arith
 node-before : (v w : Work) (i : ℕ) → Grows v w → i < length v.formula → node_at w.formula i ≡ node_at v.formula i
 node-before v w i g lt = ap (λ f. node_at f i) g.nodes.1 ∙ ap entry_node (slice_get-before v.formula g.nodes.0 i lt)
 
-next-before : (p : Position) (rs : List (ℕ × Form)) (v w : Work) (ns : List ℕ) (mark : Bool) → Grows v w → length ns < length v.formula → next_number p rs w.formula ns mark ≡ next_number p rs v.formula ns mark
+next-before : (p : Position) (rs : List (ℕ × Meaning)) (v w : Work) (ns : List ℕ) (mark : Bool) → Grows v w → length ns < length v.formula → next_number p rs w.formula ns mark ≡ next_number p rs v.formula ns mark
 next-before p rs v w ns true g lt = ap (copied_node p rs (new_number ns)) (node-before v w (length ns) g lt)
 next-before p rs v w ns false g lt = refl
 
 -- ---- one turn
 
-module _ (p : Position) (rs : List (ℕ × Form)) (v : Work) (ns : List ℕ) (marks : List Bool) (k : ℕ) (w : Work) (all : Result (List ℕ × Work) ReadRefusal)
+module _ (p : Position) (rs : List (ℕ × Meaning)) (v : Work) (ns : List ℕ) (marks : List Bool) (k : ℕ) (w : Work) (all : Result (List ℕ × Work) ReadRefusal)
     (within : k < length marks) (size : length ns ≡ k) (inside : k < length v.formula) (grows : Grows v w) (told : numbered p rs v.formula ns (drop k marks) w ≡ all) where
   turn : (d : Bool) → (next_number p rs w.formula ns (get_or marks k d) >>= λ j. numbered p rs v.formula (ns ++ j ∷ []) (drop (k + 1) marks)) w ≡ all
   turn d =
@@ -54,7 +54,7 @@ module _ (p : Position) (rs : List (ℕ × Form)) (v : Work) (ns : List ℕ) (ma
 
 -- ---- the list of new numbers and the pairs
 
-copied-same : (p : Position) (rs : List (ℕ × Form)) (new new' : ℕ → ℕ) → ((c : ℕ) → new c ≡ new' c) → (x : Node) → copied_node p rs new x ≡ copied_node p rs new' x
+copied-same : (p : Position) (rs : List (ℕ × Meaning)) (new new' : ℕ → ℕ) → ((c : ℕ) → new c ≡ new' c) → (x : Node) → copied_node p rs new x ≡ copied_node p rs new' x
 copied-same p rs new new' e node.True = refl
 copied-same p rs new new' e node.False = refl
 copied-same p rs new new' e (node.Atom kind ts c) = refl
@@ -65,7 +65,7 @@ copied-same p rs new new' e (node.Iff a b) = rw (e a, e b) refl
 copied-same p rs new new' e (node.Xor a b) = rw (e a, e b) refl
 copied-same p rs new new' e (node.Exists v a) = rw (e a) refl
 
-copy-node-is : (p : Position) (rs : List (ℕ × Form)) (copies : List (ℕ × ℕ)) (x : Node) → copy_node p rs copies x ≡ copied_node p rs (copy_of copies) x
+copy-node-is : (p : Position) (rs : List (ℕ × Meaning)) (copies : List (ℕ × ℕ)) (x : Node) → copy_node p rs copies x ≡ copied_node p rs (copy_of copies) x
 copy-node-is p rs copies node.True = refl
 copy-node-is p rs copies node.False = refl
 copy-node-is p rs copies (node.Atom kind ts c) = refl
@@ -109,7 +109,7 @@ stand-kept copies ns h c = elim (same-or-not c (length ns)) [
     past (x ∷ xs) zero le = absurd (omega arith)
     past (x ∷ xs) (suc i) le = past xs i (omega arith)
 
-copies-turn : (p : Position) (rs : List (ℕ × Form)) (f : List (Node × Position)) (k : ℕ) (rest : List ℕ) (marks : List Bool) (after : List (ℕ × ℕ) → Elab ℕ) (after' : List ℕ → Elab ℕ) (copies : List (ℕ × ℕ)) (ns : List ℕ) (w : Work) → length ns ≡ k → Stand copies ns
+copies-turn : (p : Position) (rs : List (ℕ × Meaning)) (f : List (Node × Position)) (k : ℕ) (rest : List ℕ) (marks : List Bool) (after : List (ℕ × ℕ) → Elab ℕ) (after' : List ℕ → Elab ℕ) (copies : List (ℕ × ℕ)) (ns : List ℕ) (w : Work) → length ns ≡ k → Stand copies ns
     → ((copies : List (ℕ × ℕ)) (ns : List ℕ) (w : Work) → length ns ≡ k + 1 → Stand copies ns → (copy_nodes p rs f copies rest >>= after) w ≡ (numbered p rs f ns marks >>= after') w)
     → (t : Bool) → (copy_nodes p rs f copies (cond t (k ∷ rest) rest) >>= after) w ≡ (numbered p rs f ns (t ∷ marks) >>= after') w
 copies-turn p rs f k rest marks after after' copies ns w size stand go true =
@@ -125,7 +125,7 @@ copies-turn p rs f k rest marks after after' copies ns w size stand go true =
     next j = subst (λ i. Stand ((i, j) ∷ copies) (ns ++ j ∷ [])) size (stand-copied copies ns j stand)
 copies-turn p rs f k rest marks after after' copies ns w size stand go false = go copies (ns ++ length ns ∷ []) w (omega (arith, length-append ns (length ns ∷ []), size)) (stand-kept copies ns stand)
 
-copies-are : (p : Position) (rs : List (ℕ × Form)) (f : List (Node × Position)) (r : ℕ → Bool) (b n k : ℕ) (copies : List (ℕ × ℕ)) (ns : List ℕ) (w : Work) → length ns ≡ k → Stand copies ns
+copies-are : (p : Position) (rs : List (ℕ × Meaning)) (f : List (Node × Position)) (r : ℕ → Bool) (b n k : ℕ) (copies : List (ℕ × ℕ)) (ns : List ℕ) (w : Work) → length ns ≡ k → Stand copies ns
     → (copy_nodes p rs f copies (filter r (range_with_len k n)) >>= λ cs. give (copy_of cs b)) w ≡ (numbered p rs f ns (map r (range_with_len k n)) >>= λ ms. give (new_number ms b)) w
 copies-are p rs f r b zero k copies ns w size stand = ap (λ i. Ok (i, w)) (stand b)
 copies-are p rs f r b (suc n) k copies ns w size stand =
@@ -133,7 +133,7 @@ copies-are p rs f r b (suc n) k copies ns w size stand =
     (λ copies' ns' w' size' stand'. copies-are p rs f r b n (k + 1) copies' ns' w' size' stand') (r k)
 
 -- a copy by the list of new numbers
-pub copy-numbered : (p : Position) (rs : List (ℕ × Form)) (body : ℕ) (w : Work) → copy p rs body w ≡ (numbered p rs w.formula [] (marks_of w.formula body) >>= λ ns. give (new_number ns body)) w
+pub copy-numbered : (p : Position) (rs : List (ℕ × Meaning)) (body : ℕ) (w : Work) → copy p rs body w ≡ (numbered p rs w.formula [] (marks_of w.formula body) >>= λ ns. give (new_number ns body)) w
 copy-numbered p rs body w = copies-are p rs w.formula (reaches_within body w.formula body) body (body + 1) 0 [] [] w refl (λ c. refl)
 
 pub all-pushed : {X : Type 0} (P : X → Type 0) (xs : List X) (y : X) → All P xs → P y → All P (xs ++ y ∷ [])
@@ -159,7 +159,7 @@ map-length f (x ∷ xs) = ap suc (map-length f xs)
 pub marks-length : (f : List (Node × Position)) (a : ℕ) → length (marks_of f a) ≡ a + 1
 marks-length f a = map-length (reaches_within a f a) (range_with_len 0 (a + 1)) ∙ range-length 0 (a + 1)
 
-module _ (p : Position) (rs : List (ℕ × Form)) (body : ℕ) (w : Work) (marks : List Bool) (same : marks ≡ marks_of w.formula body) where
+module _ (p : Position) (rs : List (ℕ × Meaning)) (body : ℕ) (w : Work) (marks : List Bool) (same : marks ≡ marks_of w.formula body) where
   by-marks : (numbered p rs w.formula [] marks >>= λ ns. give (new_number ns body)) w ≡ copy p rs body w
   by-marks = ap (λ ms. (numbered p rs w.formula [] ms >>= λ ns. give (new_number ns body)) w) same ∙ sym (copy-numbered p rs body w)
 

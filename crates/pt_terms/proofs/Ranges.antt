@@ -1,26 +1,26 @@
 -- What is in the range of the work stays so while it grows.
-use Rattle.std.proofs.Common.{◌≡◌, ℕ, ◌<◌, ◌≤◌, List, [], ◌∷◌, length, All, slice_index_or, get_or, sym, subst, Option, Some, None, IfSome, arith}
+use Rattle.std.proofs.Common.{◌≡◌, ℕ, ◌<◌, List, [], ◌∷◌, length, All, slice_index_or, get_or, sym, subst, Option, Some, None, IfSome, arith}
 use Rattle.std.specs.List.{AllByRecursion}
-use Rattle.pt_formula.specs.Forms.{Term}
 use Rattle.pt_formula.specs.declared.form.Form.{Form}
 use Rattle.pt_terms.specs.declared.meaning.Meaning.{Meaning}
 use Rattle.pt_terms.specs.declared.meaning.Meaning.TheVariants.{Int, Bool as Truth}
+use Rattle.pt_terms.specs.declared.meaning.Sort.{Sort as VariableSort}
+use Rattle.pt_terms.specs.declared.meaning.Bound.{Bound}
+use Rattle.pt_terms.specs.declared.meaning.Bound.TheVariants.{Variable, Term as Standing}
 use Rattle.pt_terms.specs.Elaboration.{Work}
 use Rattle.pt_terms.specs.Gives.{Grows}
 use Rattle.pt_grammar.specs.Words.{Name}
 use Rattle.pt_terms.specs.Names.{Use, Constant_of, Defined, Symbol}
 use Rattle.pt_terms.specs.Names.{Env}
 use Rattle.pt_terms.specs.Theory.{Argument}
-use Rattle.pt_terms.specs.Sound.{AreTermsBelow, IsFormBelow, IsMeaningIn, IsUseIn, IsEnvIn}
+use Rattle.pt_terms.specs.Sorts.{HasSort, sort_of}
+use Rattle.pt_terms.specs.Sound.{IsFormOver, IsMeaningIn, IsUseIn, IsBoundIn, IsEnvIn, AreReplacing}
+use Rattle.pt_terms.proofs.SortLemmas.{has-below, has-more, have-more, integers-more}
 
-terms_more : (a b : ℕ) (ts : List Term) → a ≤ b → AreTermsBelow a ts → AreTermsBelow b ts
-terms_more a b [] le h = tt
-terms_more a b (t ∷ ts) le h = (omega (arith, h.0), terms_more a b ts le h.1)
+pub form_more : (v w : Work) (f : Form) → Grows v w → IsFormOver v.given f → IsFormOver w.given f
+form_more v w f g h = (h.0, integers-more v w f.terms g h.1)
 
-pub form_more : (v w : Work) (f : Form) → Grows v w → IsFormBelow v.given f → IsFormBelow w.given f
-form_more v w f g h = (h.0, terms_more v.given w.given f.terms g.given h.1)
-
-pub form_parts : (v : Work) (f : Form) → IsFormBelow v.given f → IsMeaningIn v (Int f)
+pub form_parts : (v : Work) (f : Form) → IsFormOver v.given f → IsMeaningIn v (Int f)
 form_parts v f h = h
 
 pub node_more : (v w : Work) (i : ℕ) → Grows v w → i < length v.formula → i < length w.formula
@@ -37,7 +37,7 @@ so_far_more v w (Some i) g h = omega (arith, h)
 pub nodes_more : (v w : Work) (xs : List ℕ) → Grows v w → All (λ i. i < length v.formula) xs → All (λ i. i < length w.formula) xs
 nodes_more v w xs g h = λ k d lt. let below : slice_index_or xs k d < length v.formula = h k d lt in omega arith
 
-pub forms_more : (v w : Work) {B : Type 0} (form : B → Form) (fs : List B) → Grows v w → All (λ f. IsFormBelow v.given (form f)) fs → All (λ f. IsFormBelow w.given (form f)) fs
+pub forms_more : (v w : Work) {B : Type 0} (form : B → Form) (fs : List B) → Grows v w → All (λ f. IsFormOver v.given (form f)) fs → All (λ f. IsFormOver w.given (form f)) fs
 forms_more v w form fs g h = λ k d lt. form_more v w (form (slice_index_or fs k d)) g (h k d lt)
 
 pub arguments_more : (v w : Work) (xs : List Argument) → Grows v w → All (λ (a : Argument). IsMeaningIn v a.1) xs → All (λ (a : Argument). IsMeaningIn w a.1) xs
@@ -48,16 +48,26 @@ all_more P Q [] f h = tt
 all_more P Q (x ∷ xs) f h = (f x h.0, all_more P Q xs f h.1)
 
 pub use_more : (v w : Work) (u : Use) → Grows v w → IsUseIn v u → IsUseIn w u
-use_more v w (Constant_of k) g h = omega arith
-use_more v w (Defined ps m) g h = (meaning_more v w m g h.0, all_more (λ k. k < v.given) (λ k. k < w.given) ps (λ k lt. omega arith) h.1)
+use_more v w (Constant_of k s) g h = has-more v w k s g h
+use_more v w (Defined ps ss m) g h = (meaning_more v w m g h.0, have-more v w ps ss g h.1)
+
+pub bound_more : (v w : Work) (b : Bound) → Grows v w → IsBoundIn v b → IsBoundIn w b
+bound_more v w (Variable k s) g h = has-more v w k s g h
+bound_more v w (Standing m) g h = meaning_more v w m g h
 
 pub env_more : (v w : Work) (env : Env) → Grows v w → IsEnvIn v env → IsEnvIn w env
 env_more v w env g h = record {
-  bound = all_more (λ (b : Name × Meaning). IsMeaningIn v b.1) (λ (b : Name × Meaning). IsMeaningIn w b.1) env.bound (λ b k. meaning_more v w b.1 g k) h.bound;
+  bound = all_more (λ (b : Name × Bound). IsBoundIn v b.1) (λ (b : Name × Bound). IsBoundIn w b.1) env.bound (λ b k. bound_more v w b.1 g k) h.bound;
   live = all_more (λ (s : Symbol). IsUseIn v s.stands_for) (λ (s : Symbol). IsUseIn w s.stands_for) env.live (λ s k. use_more v w s.stands_for g k) h.live;
 }
 
-pub ruleset ranges = (form_more, node_more, meaning_more, so_far_more, nodes_more, forms_more, arguments_more, use_more, env_more)
+pub variables_more : {B : Type 0} (v w : Work) (number : B → ℕ) (kind : B → VariableSort) (xs : List B) → Grows v w → All (λ x. HasSort v.given (number x) (kind x)) xs → All (λ x. HasSort w.given (number x) (kind x)) xs
+variables_more v w number kind xs g h = λ k d lt. has-more v w (number (slice_index_or xs k d)) (kind (slice_index_or xs k d)) g (h k d lt)
+
+pub replacing_more : (v w : Work) (rs : List (ℕ × Meaning)) → Grows v w → AreReplacing v rs → AreReplacing w rs
+replacing_more v w rs g h = all_more (λ (r : ℕ × Meaning). IsMeaningIn v r.1 × HasSort v.given r.0 (sort_of r.1)) (λ (r : ℕ × Meaning). IsMeaningIn w r.1 × HasSort w.given r.0 (sort_of r.1)) rs (λ r k. (meaning_more v w r.1 g k.0, has-more v w r.0 (sort_of r.1) g k.1)) h
+
+pub ruleset ranges = (form_more, node_more, meaning_more, so_far_more, nodes_more, forms_more, arguments_more, use_more, bound_more, env_more, has-more, have-more, has-below, variables_more, replacing_more)
 
 -- what all have, the item at a place has
 pub All-item : {X : Type 0} (P : X → Type 0) (xs : List X) (k : ℕ) (x : X) → k < length xs → x ≡ get_or xs k x → All P xs → P x

@@ -1,12 +1,9 @@
 -- One turn of a loop over steps.
-use Rattle.std.proofs.Common.{◌≡◌, inl, inr, ℕ, zero, suc, ◌+◌, ◌<◌, ◌≤◌, List, [], ◌∷◌, ◌++◌, drop, get_or, length, add-one, Option, refl, ap, sym, subst, ◌∙◌, drop-cons, append_assoc, arith}
-use Rattle.std.specs.Prelude.{Result, Ok, Err, OnOk, Bool, true, false, not}
-use Rattle.std.specs.Result.{is_err}
-use Rattle.std.proofs.lemmas.List.{append-nil}
+use Rattle.std.proofs.Common.{◌≡◌, inl, inr, ℕ, suc, ◌+◌, ◌<◌, List, [], ◌∷◌, ◌++◌, drop, get_or, length, add-one, Option, refl, ap, sym, subst, ◌∙◌, drop-cons, append_assoc}
+use Rattle.std.specs.Prelude.{Result, Ok, Err}
 use Rattle.pt_formula.specs.declared.node.Position.{Position}
-use Rattle.pt_syntax.specs.declared.kinds.ReadKind.{ReadKind}
 use Rattle.pt_syntax.specs.declared.kinds.ReadRefusal.{ReadRefusal}
-use Rattle.pt_terms.specs.Elaboration.{Work, Elab, give, follow, ◌>>=◌, require, each}
+use Rattle.pt_terms.specs.Elaboration.{Work, Elab, give, follow, ◌>>=◌, each}
 use Rattle.pt_terms.specs.Gives.{Fails}
 use Rattle.pt_terms.specs.Chains.{run, close}
 use Rattle.pt_terms.proofs.Chaining.{run_append}
@@ -43,7 +40,7 @@ module _ {A : Type 0} (f : A → Elab ℕ) (p : Position) (so_far : Option ℕ) 
   part_goes_on j v ok = sym (given_then (run f p so_far xs) (λ j. run f p j ys >>= close p) w v j ok) ∙ sym (run_append f p so_far xs ys w) ∙ told
 
 -- one more answer in front of the others
-more_found : {B : Type 0} (found : List B) (y : B) (r : Result (List B × Work) ReadRefusal) → follow (follow r (λ ys. give (y ∷ ys))) (λ ys. give (found ++ ys)) ≡ follow r (λ ys. give ((found ++ y ∷ []) ++ ys))
+pub more_found : {B : Type 0} (found : List B) (y : B) (r : Result (List B × Work) ReadRefusal) → follow (follow r (λ ys. give (y ∷ ys))) (λ ys. give (found ++ ys)) ≡ follow r (λ ys. give ((found ++ y ∷ []) ++ ys))
 more_found found y (Ok r) = ap (λ ys. Ok (ys, r.1)) (sym (append_assoc found (y ∷ []) r.0))
 more_found found y (Err e) = refl
 

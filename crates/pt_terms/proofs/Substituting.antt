@@ -6,6 +6,7 @@ use Rattle.pt_formula.specs.declared.form.Form.{Form}
 use Rattle.pt_formula.specs.Forms.{Term}
 use Rattle.pt_formula.specs.Sums.{form_sum, form_scale}
 use Rattle.pt_syntax.specs.declared.kinds.ReadRefusal.{ReadRefusal}
+use Rattle.pt_terms.specs.declared.meaning.Meaning.{Meaning}
 use Rattle.pt_terms.specs.Elaboration.{Work, Elab, follow, ◌>>=◌, form}
 use Rattle.pt_terms.specs.Theory.{replacing, substituted}
 use Rattle.pt_terms.specs.Copies.{added}
@@ -20,10 +21,10 @@ pub follow_follow : {A B C : Type 0} (r : Result (A × Work) ReadRefusal) (f : A
 follow_follow (Ok r) f g = refl
 follow_follow (Err e) f g = refl
 
-pub add_first : (p : Position) (rs : List (ℕ × Form)) (so_far : Form) (t : Term) (ts : List Term) (w : Work) → (added p rs so_far t >>= λ h. substituted p rs h ts) w ≡ substituted p rs so_far (t ∷ ts) w
+pub add_first : (p : Position) (rs : List (ℕ × Meaning)) (so_far : Form) (t : Term) (ts : List Term) (w : Work) → (added p rs so_far t >>= λ h. substituted p rs h ts) w ≡ substituted p rs so_far (t ∷ ts) w
 add_first p rs so_far t ts w = follow_follow (form (form_scale t.1 (replacing rs t.0)) p w) (λ g. form (form_sum so_far g) p) (λ h. substituted p rs h ts)
 
-module _ (p : Position) (rs : List (ℕ × Form)) (so_far : Form) (ts : List Term) (k : ℕ) (w : Work) (all : Result (Form × Work) ReadRefusal)
+module _ (p : Position) (rs : List (ℕ × Meaning)) (so_far : Form) (ts : List Term) (k : ℕ) (w : Work) (all : Result (Form × Work) ReadRefusal)
     (within : k < length ts) (told : substituted p rs so_far (drop k ts) w ≡ all) where
   turn : (d : Term) → (added p rs so_far (get_or ts k d) >>= λ h. substituted p rs h (drop (k + 1) ts)) w ≡ all
   turn d =

@@ -1,7 +1,7 @@
 -- What is kept of the names that are bound in a term, and what contracts see of them.
 use Rattle.std.specs.Prelude.{ℕ, ◌<◌, ◌≤◌, ◌≡◌, ◌==◌, false, if◌then◌else◌, List, [], ◌∷◌, length, map, reverse, slice_get, unwrap_or, Option, Some, None, bytes_eq, ⊤}
 use Rattle.std.specs.List.{list_any, All}
-use Rattle.pt_terms.specs.declared.meaning.Meaning.{Meaning}
+use Rattle.pt_terms.specs.declared.meaning.Bound.{Bound}
 use Rattle.pt_terms.specs.declared.bindings.Binding.{Binding}
 use Rattle.pt_terms.specs.declared.bindings.Bindings.TheInside.{Inside}
 use Rattle.pt_grammar.specs.Words.{Name}
@@ -10,13 +10,13 @@ use Rattle.pt_grammar.specs.Words.{Name}
 abbrev pub name_at : List Name → ℕ → Name
 name_at names n = unwrap_or (slice_get names n) []
 
-abbrev pub shown_binding : List Name → Binding → Name × Meaning
-shown_binding names b = (name_at names b.name, b.meaning)
+abbrev pub shown_binding : List Name → Binding → Name × Bound
+shown_binding names b = (name_at names b.name, b.stands_for)
 
 abbrev pub names_of : Inside → List Name
 names_of s = map (λ k. k.items) s.names.keys
 
-abbrev pub shown : Inside → List (Name × Meaning)
+abbrev pub shown : Inside → List (Name × Bound)
 shown s = map (shown_binding (names_of s)) (reverse s.stack.items)
 
 -- the place of the newest binding of a name, among bindings with the newest first

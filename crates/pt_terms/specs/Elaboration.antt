@@ -1,5 +1,5 @@
 -- Elaboration as steps that may refuse: each adds nodes to the formula and gives out variable numbers.
-use Rattle.std.specs.Prelude.{ℕ, ◌+◌, Bool, true, false, if◌then◌else◌, List, [], ◌∷◌, ℤ, pos, Result, Ok, Err}
+use Rattle.std.specs.Prelude.{ℕ, Bool, true, false, if◌then◌else◌, List, [], ◌∷◌, ◌++◌, length, ℤ, pos, Result, Ok, Err}
 use Rattle.pt_formula.specs.declared.node.Node.{Node}
 use Rattle.pt_formula.specs.declared.node.Position.{Position}
 use Rattle.pt_formula.specs.declared.form.Form.{Form}
@@ -10,11 +10,12 @@ use Rattle.pt_formula.specs.Sums.{fits_form, has_few_terms}
 use Rattle.pt_syntax.specs.declared.kinds.ReadKind.{ReadKind}
 use Rattle.pt_syntax.specs.declared.kinds.ReadKind.TheVariants.{Coefficient, Tracks, Nodes, NoMemory}
 use Rattle.pt_syntax.specs.declared.kinds.ReadRefusal.{ReadRefusal}
+use Rattle.pt_terms.specs.declared.meaning.Sort.{Sort}
 
--- the formula so far, and how many variable numbers have been given
+-- the formula so far, and the sorts of the variables that have been given out, by their numbers
 pub record Work : Type 0 where
   pub formula : List (Node × Position)
-  pub given : ℕ
+  pub given : List Sort
 
 -- an answer and what is added, or the first refusal
 abbrev pub Elab : Type 0 → Type 0
@@ -45,7 +46,7 @@ fault_kind (fault.Tracks at) = Tracks
 fault_kind fault.Nodes = Nodes
 fault_kind fault.NoMemory = NoMemory
 
-abbrev pub built : ℕ → Position → Result (ℕ × List (Node × Position)) FormulaFault → Result (ℕ × Work) ReadRefusal
+abbrev pub built : List Sort → Position → Result (ℕ × List (Node × Position)) FormulaFault → Result (ℕ × Work) ReadRefusal
 built given p (Ok r) = Ok (r.0, record { formula = r.1; given = given })
 built given p (Err f) = Err (record { kind = fault_kind f; position = p })
 
@@ -60,9 +61,9 @@ make_exists v a p w = built w.given p (made_exists v a p w.formula)
 abbrev pub form : Form → Position → Elab Form
 form f p = if fits_form f then (if has_few_terms f then give f else refuse Tracks p) else refuse Coefficient p
 
--- the next variable number
-abbrev pub fresh : Elab ℕ
-fresh w = Ok (w.given, record { formula = w.formula; given = w.given + 1 })
+-- the next variable number, for a variable of this sort
+abbrev pub fresh : Sort → Elab ℕ
+fresh s w = Ok (length w.given, record { formula = w.formula; given = w.given ++ s ∷ [] })
 
 -- one step for each, from left to right
 abbrev pub each : {A B : Type 0} → (A → Elab B) → List A → Elab (List B)

@@ -8,9 +8,9 @@ use Rattle.pt_syntax.specs.declared.sexpr.SExpr.TheVariants as sexpr
 use Rattle.pt_terms.specs.Elaboration.{Work}
 use Rattle.pt_terms.specs.Names.{Env}
 
--- node 0 alone, and no variable number given
+-- node 0 alone, and no variable given out
 abbrev pub beginning : Work
-beginning = record { formula = start; given = 0 }
+beginning = record { formula = start; given = [] }
 
 abbrev pub nothing_named : Env
 nothing_named = record { bound = []; live = [] }

@@ -6,12 +6,15 @@ use Rattle.pt_formula.specs.declared.node.Node.{Node}
 use Rattle.pt_formula.specs.declared.node.Node.TheVariants as node
 use Rattle.pt_formula.specs.declared.node.Position.{Position}
 use Rattle.pt_formula.specs.declared.form.Form.{Form}
-use Rattle.pt_formula.specs.Forms.{Term}
+use Rattle.pt_formula.specs.Forms as forms
 use Rattle.pt_formula.specs.Formulas.{node_at, children, node_tree, tree_of, variables_of}
 use Rattle.pt_syntax.specs.declared.sexpr.SExpr.{SExpr}
 use Rattle.pt_grammar.specs.Words.{Name}
 use Rattle.pt_terms.specs.declared.meaning.Meaning.{Meaning}
 use Rattle.pt_terms.specs.declared.meaning.Meaning.TheVariants.{Int, Bool as Truth}
+use Rattle.pt_terms.specs.declared.meaning.Sort.{Sort}
+use Rattle.pt_terms.specs.declared.meaning.Bound.{Bound}
+use Rattle.pt_terms.specs.declared.meaning.Bound.TheVariants.{Variable, Term}
 use Rattle.pt_terms.specs.Elaboration.{Work}
 use Rattle.pt_terms.specs.Names.{Use, Constant_of, Defined, Symbol, Env}
 use Rattle.pt_terms.specs.Terms.{term}
@@ -25,7 +28,8 @@ IsFront f g = (more : Nodes) × (g ≡ f ++ more)
 
 pub record Grown (old new : Work) : Type 0 where
   pub front : IsFront old.formula new.formula
-  pub given : old.given ≤ new.given
+  pub sorts : (more : List Sort) × (new.given ≡ old.given ++ more)
+  pub given : length old.given ≤ length new.given
 
 -- the variables that the first n nodes bind
 abbrev pub BindsIn : (ℕ → Type 0) → Nodes → ℕ → Type 0
@@ -47,19 +51,24 @@ NodeIn V F i n = (i < n) × FreeIn V F i
 
 -- all variables of a form are in V
 abbrev pub FormIn : (ℕ → Type 0) → Form → ℕ → Type 0
-FormIn V f n = AllByRecursion (λ (t : Term). V t.0) f.terms
+FormIn V f n = AllByRecursion (λ (t : forms.Term). V t.0) f.terms
 
 abbrev pub MeaningIn : (ℕ → Type 0) → Nodes → Meaning → ℕ → Type 0
 MeaningIn V F (Int f) n = FormIn V f n
 MeaningIn V F (Truth i) n = NodeIn V F i n
 
--- what a live name stands for: its parameters aside
+-- what a bound name stands for
+abbrev pub BoundIn : (ℕ → Type 0) → Nodes → Bound → ℕ → Type 0
+BoundIn V F (Variable v s) n = V v
+BoundIn V F (Term m) n = MeaningIn V F m n
+
+-- what a live name stands for: its parameters aside, which have one sort each
 abbrev pub UseIn : (ℕ → Type 0) → Nodes → Use → ℕ → Type 0
-UseIn V F (Constant_of v) n = V v
-UseIn V F (Defined ps m) n = MeaningIn (λ v. V v ⊎ ContainsByRecursion v ps) F m n
+UseIn V F (Constant_of v s) n = V v
+UseIn V F (Defined ps ss m) n = (length ss ≡ length ps) × MeaningIn (λ v. V v ⊎ ContainsByRecursion v ps) F m n
 
 pub record EnvIn (V : ℕ → Type 0) (F : Nodes) (env : Env) (n : ℕ) : Type 0 where
-  pub bound : AllByRecursion (λ (b : Name × Meaning). MeaningIn V F b.1 n) env.bound
+  pub bound : AllByRecursion (λ (b : Name × Bound). BoundIn V F b.1 n) env.bound
   pub live : AllByRecursion (λ (s : Symbol). UseIn V F s.stands_for n) env.live
 
 -- below the one number, or not below the other
@@ -70,7 +79,7 @@ Outside low high v = (v < low) ⊎ (high ≤ v)
 -- variable from low to high that no earlier node binds and that was given out before.
 abbrev pub IsTermOver : Nodes → Env → Work → Meaning → Work → List ℕ → ℕ → ℕ → Type 0
 IsTermOver F env w m w' vs low high =
-    EnvIn (λ v. ContainsByRecursion v vs) F env (length w.formula) → IsFront w'.formula F → high ≤ w.given → BindsIn (Outside low high) F (length w.formula)
+    EnvIn (λ v. ContainsByRecursion v vs) F env (length w.formula) → IsFront w'.formula F → high ≤ length w.given → BindsIn (Outside low high) F (length w.formula)
     → BindsIn (Outside low high) F (length w'.formula) × MeaningIn (λ v. ContainsByRecursion v vs) F m (length w'.formula)
 
 abbrev pub AreTermsOver : Nodes → Type 0

@@ -8,6 +8,7 @@ use Rattle.pt_formula.specs.declared.form.FormFault.{FormFault}
 use Rattle.pt_formula.specs.declared.form.FormFault.TheVariants as form_fault
 use Rattle.pt_syntax.specs.declared.kinds.ReadKind.TheVariants.{Coefficient, Tracks}
 use Rattle.pt_syntax.specs.declared.kinds.ReadRefusal.{ReadRefusal}
+use Rattle.pt_terms.specs.declared.meaning.Sort.{Sort}
 use Rattle.pt_syntax.specs.Rest.{no_memory}
 use Rattle.pt_terms.specs.Elaboration.{fault_kind, Work, Elab}
 
@@ -26,7 +27,8 @@ Says view answer step = (w : Work) → Gives view answer w w step
 pub record Grows (old new : Work) : Type 0 where
   pub nodes : (more : List (Node × Position)) × (new.formula ≡ old.formula ++ more)
   pub count : length old.formula ≤ length new.formula
-  pub given : old.given ≤ new.given
+  pub sorts : (more : List Sort) × (new.given ≡ old.given ++ more)
+  pub given : length old.given ≤ length new.given
 
 -- a builder's refusal, and a form's, at the term
 abbrev pub IsRefusalOf : FormulaFault → Position → ReadRefusal → Type 0

@@ -6,14 +6,16 @@ use Rattle.pt_formula.specs.Formulas.{IsFormula}
 use Rattle.pt_syntax.specs.declared.sexpr.SExpr.{SExpr}
 use Rattle.pt_terms.specs.Elaboration.{Work, Elab, make}
 use Rattle.pt_terms.specs.Names.{Env}
+use Rattle.pt_terms.specs.Sorts.{AreSorted}
 use Rattle.pt_terms.specs.Gives.{Grows}
 use Rattle.pt_terms.specs.Sound.{AreBelow, IsMeaningIn, IsEnvIn}
 use Rattle.pt_terms.specs.Terms.{term}
 
--- a well-formed formula, over variables that have been given out
+-- a well-formed formula, over variables that have been given out, each atom over those of sort Int or made by one of sort Bool
 pub record IsSoundWork (w : Work) : Type 0 where
   pub formula : IsFormula w.formula
-  pub below : AreBelow w.formula w.given
+  pub below : AreBelow w.formula (length w.given)
+  pub sorted : AreSorted w.formula w.given
 
 -- a step that gives an answer from sound work on only adds to it, the work is sound again, and P holds of the answer
 abbrev pub Keeps : {A : Type 0} → (A → Work → Type 0) → Elab A → Work → Type 0

@@ -1,3 +1,4 @@
+pub mod Sorts
 pub mod Elaboration
 pub mod Names
 pub mod Theory

@@ -7,8 +7,8 @@ use Rattle.pt_terms.specs.declared.symbols.Symbols.TheInside.{Inside}
 use Rattle.pt_terms.specs.Names.{Symbol, Use, Constant_of, Defined}
 
 abbrev pub shown_use : kept.Use → Use
-shown_use (Constant v) = Constant_of v
-shown_use (Definition parameters meaning) = Defined parameters meaning
+shown_use (Constant v s) = Constant_of v s
+shown_use (Definition parameters sorts meaning) = Defined parameters sorts meaning
 
 abbrev pub shown : Inside → List Symbol
 shown s = map (λ e. record { name = e.0.items; stands_for = shown_use e.1.stands_for; level = e.1.level }) s.entries.entries
@@ -23,5 +23,5 @@ HasOrder s = AreOrdered (shown s)
 
 -- how many constants a live name is
 abbrev pub constant_count : Use → ℕ
-constant_count (Constant_of v) = 1
-constant_count (Defined parameters meaning) = 0
+constant_count (Constant_of v s) = 1
+constant_count (Defined parameters sorts meaning) = 0

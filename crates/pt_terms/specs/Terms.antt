@@ -2,9 +2,13 @@
 use Rattle.std.specs.Prelude.{ℕ, zero, suc, ◌^◌, nat_lt, Bool, true, false, not, ◌||◌, ◌==◌, if◌then◌else◌, List, [], ◌∷◌, map, Option, Some, None, pos, bytes_eq, codes}
 use Rattle.pt_formula.specs.declared.node.Node.TheVariants as node
 use Rattle.pt_formula.specs.declared.node.Position.{Position}
-use Rattle.pt_terms.specs.Elaboration.{constant_form, variable_form, Elab, give, refuse, ◌>>=◌, require, make, make_exists, fresh, each}
+use Rattle.pt_terms.specs.Elaboration.{constant_form, Elab, give, refuse, ◌>>=◌, require, make, make_exists, fresh, each}
 use Rattle.pt_terms.specs.declared.meaning.Meaning.{Meaning}
 use Rattle.pt_terms.specs.declared.meaning.Meaning.TheVariants.{Int}
+use Rattle.pt_terms.specs.declared.meaning.Sort.{Sort}
+use Rattle.pt_terms.specs.declared.meaning.Sort.TheVariants as sort
+use Rattle.pt_terms.specs.declared.meaning.Bound.{Bound}
+use Rattle.pt_terms.specs.declared.meaning.Bound.TheVariants.{Variable, Term}
 use Rattle.pt_syntax.specs.declared.sexpr.Leaf.{Leaf}
 use Rattle.pt_syntax.specs.declared.sexpr.Leaf.TheVariants.{Numeral, Constant, Text, Symbol, Keyword}
 use Rattle.pt_syntax.specs.declared.sexpr.SExpr.{SExpr, out-SExpr}
@@ -35,39 +39,43 @@ abbrev pub bindable : List Name → SExpr → Elab Name
 bindable taken s = require (not (is_reserved (name_of (symbol_of s)) || is_among (name_of (symbol_of s)) taken)) Redeclared (place_of s) >>= λ _. give (name_of (symbol_of s))
 
 -- a binding of a let, and all of them: each term in the outer scope
-abbrev pub binding : (SExpr → Elab Meaning) → List Name → SExpr → Elab (Name × Meaning)
+abbrev pub binding : (SExpr → Elab Meaning) → List Name → SExpr → Elab (Name × Bound)
 binding term taken e = with_pair (items_of e) (place_of e) (λ s t. do
   name ← bindable taken s
   m ← term t
-  give (name, m))
+  give (name, Term m))
 
-abbrev pub bindings : (SExpr → Elab Meaning) → List (Name × Meaning) → List SExpr → Elab (List (Name × Meaning))
+abbrev pub bindings : (SExpr → Elab Meaning) → List (Name × Bound) → List SExpr → Elab (List (Name × Bound))
 bindings term done [] = give done
 bindings term done (e ∷ es) = binding term (map (λ b. b.0) done) e >>= λ b. bindings term (b ∷ done) es
 
-abbrev pub int_sort : SExpr → Elab (Unit {0})
-int_sort e = require (bytes_eq (name_of (symbol_of e)) (codes "Int")) Unsupported (place_of e)
+-- the sort that is written
+abbrev pub named_sort : SExpr → Elab Sort
+named_sort e =
+    if bytes_eq (name_of (symbol_of e)) (codes "Int") then give sort.Int
+    else if bytes_eq (name_of (symbol_of e)) (codes "Bool") then give sort.Bool
+    else refuse Unsupported (place_of e)
 
 -- a variable, and all of them, the last one first
-abbrev pub variable : List Name → SExpr → Elab (Name × ℕ)
-variable taken e = with_pair (items_of e) (place_of e) (λ s sort. do
+abbrev pub variable : List Name → SExpr → Elab (Name × ℕ × Sort)
+variable taken e = with_pair (items_of e) (place_of e) (λ s t. do
   name ← bindable taken s
-  _ ← int_sort sort
-  v ← fresh
-  give (name, v))
+  x ← named_sort t
+  v ← fresh x
+  give (name, v, x))
 
-abbrev pub variables : List (Name × ℕ) → List SExpr → Elab (List (Name × ℕ))
+abbrev pub variables : List (Name × ℕ × Sort) → List SExpr → Elab (List (Name × ℕ × Sort))
 variables done [] = give done
 variables done (e ∷ es) = variable [] e >>= λ x. variables (x ∷ done) es
 
-abbrev pub as_bound : Name × ℕ → Name × Meaning
-as_bound x = (x.0, Int (variable_form x.1))
+abbrev pub as_bound : Name × ℕ × Sort → Name × Bound
+as_bound x = (x.0, Variable x.1 x.2)
 
-abbrev pub exists_all : Position → List (Name × ℕ) → ℕ → Elab ℕ
+abbrev pub exists_all : Position → List (Name × ℕ × Sort) → ℕ → Elab ℕ
 exists_all p [] a = give a
 exists_all p (x ∷ xs) a = make_exists x.1 a p >>= λ b. exists_all p xs b
 
-abbrev pub quantified : Bool → Position → List (Name × ℕ) → ℕ → Elab ℕ
+abbrev pub quantified : Bool → Position → List (Name × ℕ × Sort) → ℕ → Elab ℕ
 quantified true p xs a = exists_all p xs a
 quantified false p xs a = do
   b ← make (node.Not a) p

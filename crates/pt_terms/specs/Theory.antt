@@ -1,5 +1,5 @@
 -- The theories: what each operator makes of its arguments, and applications of definitions.
-use Rattle.std.specs.Prelude.{ℕ, zero, suc, ◌+◌, nat_lt, Bool, true, false, not, ◌||◌, ◌==◌, if◌then◌else◌, List, [], ◌∷◌, ◌++◌, length, map, filter, zip, ℤ, pos, negsuc, neg_ℤ, ◌-ℤ◌, int_le, Ok}
+use Rattle.std.specs.Prelude.{ℕ, zero, suc, ◌+◌, nat_lt, Bool, true, false, not, ◌||◌, ◌==◌, if◌then◌else◌, List, [], ◌∷◌, ◌++◌, length, map, filter, ℤ, pos, negsuc, neg_ℤ, ◌-ℤ◌, int_le, Option, Some, None, Ok}
 use Rattle.std.specs.Int.{int_rem_euclid}
 use Rattle.std.specs.List.{list_any, range_with_len}
 use Rattle.pt_formula.specs.declared.node.Node.{Node}
@@ -14,7 +14,9 @@ use Rattle.pt_terms.specs.Elaboration.{constant_form, variable_form, Elab, give,
 use Rattle.pt_formula.specs.Formulas.{node_at, children, truth_node}
 use Rattle.pt_terms.specs.declared.meaning.Meaning.{Meaning}
 use Rattle.pt_terms.specs.declared.meaning.Meaning.TheVariants.{Int, Bool as Truth}
-use Rattle.pt_syntax.specs.declared.kinds.ReadKind.TheVariants.{Sort, Nonlinear, Coefficient, Unsupported}
+use Rattle.pt_terms.specs.declared.meaning.Sort.{Sort}
+use Rattle.pt_terms.specs.Sorts.{same_sort, sort_of}
+use Rattle.pt_syntax.specs.declared.kinds.ReadKind.TheVariants.{Sort as WrongSort, Nonlinear, Coefficient, Unsupported}
 use Rattle.pt_grammar.specs.declared.words.Relation.{Relation}
 use Rattle.pt_grammar.specs.declared.words.Relation.TheVariants as comparison
 use Rattle.pt_grammar.specs.declared.words.Operator.{Operator}
@@ -27,11 +29,11 @@ Argument = Position × Meaning
 
 abbrev pub truth_of : Position → Meaning → Elab ℕ
 truth_of p (Truth i) = give i
-truth_of p (Int f) = refuse Sort p
+truth_of p (Int f) = refuse WrongSort p
 
 abbrev pub form_of : Position → Meaning → Elab Form
 form_of p (Int f) = give f
-form_of p (Truth i) = refuse Sort p
+form_of p (Truth i) = refuse WrongSort p
 
 abbrev pub truth : Argument → Elab ℕ
 truth a = truth_of a.0 a.1
@@ -124,7 +126,7 @@ conjunction f p (a ∷ rest) = f a >>= λ i. and_all f p i rest
 -- of two arguments or more, the first one at q, and all of its sort
 abbrev pub relation : Position → Relation → Position → Meaning → List Argument → Elab ℕ
 relation p comparison.Equal q (Truth i) rest = each truth rest >>= λ js. conjunction (λ (ab : ℕ × ℕ). make (node.Iff ab.0 ab.1) p) p (neighbours i js)
-relation p r q (Truth i) rest = refuse Sort q
+relation p r q (Truth i) rest = refuse WrongSort q
 relation p r q (Int f) rest = each integer rest >>= λ gs. conjunction (compare p r) p (neighbours f gs)
 
 abbrev pub distinct : Position → Meaning → List Argument → Elab ℕ
@@ -172,18 +174,39 @@ apply p symbol.Plus (a ∷ rest) = integer a >>= λ f. each integer rest >>= λ 
 apply p symbol.Minus (a ∷ []) = integer a >>= λ f. as_form (form (form_scale (negsuc 0) f) p)
 apply p symbol.Minus (a ∷ b ∷ rest) = integer a >>= λ f. each integer (b ∷ rest) >>= λ gs. as_form (differences p f gs)
 apply p symbol.Times (a ∷ rest) = integer a >>= λ f. each integer rest >>= λ gs. as_form (products p f gs)
-apply p _ _ = refuse Sort p
+apply p _ _ = refuse WrongSort p
 
 abbrev pub divides : Position → ℕ → List Argument → Elab Meaning
 divides p n (a ∷ []) = integer a >>= λ f. as_truth (atom p (Mod n) f.terms (int_rem_euclid (neg_ℤ f.constant) (pos n)))
-divides p n _ = refuse Sort p
+divides p n _ = refuse WrongSort p
 
-abbrev pub replacing : List (ℕ × Form) → ℕ → Form
-replacing [] v = variable_form v
-replacing (r ∷ rs) v = if r.0 == v then r.1 else replacing rs v
+-- ---- applications of definitions
+
+-- a meaning at p that is to have this sort
+abbrev pub of_sort : Sort → Position → Meaning → Elab Meaning
+of_sort s p m = require (same_sort s (sort_of m)) WrongSort p >>= λ _. give m
+
+-- parameters with their arguments, each of which is to have its parameter's sort, from left to right
+abbrev pub replacements : List ℕ → List Sort → List Argument → Elab (List (ℕ × Meaning))
+replacements (v ∷ vs) (s ∷ ss) (x ∷ xs) = of_sort s x.0 x.1 >>= λ m. replacements vs ss xs >>= λ rs. give ((v, m) ∷ rs)
+replacements _ _ _ = give []
+
+-- the argument that replaces a variable
+abbrev pub replacement : List (ℕ × Meaning) → ℕ → Option Meaning
+replacement [] v = None
+replacement (r ∷ rs) v = if r.0 == v then Some r.1 else replacement rs v
+
+-- the form in the place of a variable of sort Int: the argument that replaces it, else itself
+abbrev pub form_for : ℕ → Option Meaning → Form
+form_for v None = variable_form v
+form_for v (Some (Int f)) = f
+form_for v (Some (Truth i)) = constant_form (pos 0)
+
+abbrev pub replacing : List (ℕ × Meaning) → ℕ → Form
+replacing rs v = form_for v (replacement rs v)
 
 -- the terms with forms in place of variables, added up behind f
-abbrev pub substituted : Position → List (ℕ × Form) → Form → List Term → Elab Form
+abbrev pub substituted : Position → List (ℕ × Meaning) → Form → List Term → Elab Form
 substituted p rs f [] = give f
 substituted p rs f (t ∷ ts) = do
   g ← form (form_scale t.1 (replacing rs t.0)) p
@@ -194,13 +217,29 @@ abbrev pub new_constant : Kind → ℤ → ℤ
 new_constant (Mod m) c = int_rem_euclid c (pos m)
 new_constant _ c = c
 
+-- the node in the place of an atom on a parameter of sort Bool: the argument
+abbrev pub node_for : Option Meaning → Option ℕ
+node_for None = None
+node_for (Some (Int f)) = None
+node_for (Some (Truth i)) = Some i
+
+abbrev pub truth_for : List (ℕ × Meaning) → List Term → Option ℕ
+truth_for rs [] = None
+truth_for rs (t ∷ []) = node_for (replacement rs t.0)
+truth_for rs (t ∷ u ∷ ts) = None
+
+-- the copy of an atom, unless a node stands in its place
+abbrev pub copied_atom : Position → List (ℕ × Meaning) → Kind → List Term → ℤ → Option ℕ → Elab ℕ
+copied_atom p rs kind ts c (Some i) = give i
+copied_atom p rs kind ts c None = substituted p rs (constant_form (pos 0)) ts >>= λ g. atom p kind g.terms (new_constant kind (c -ℤ g.constant))
+
 -- the new number of a copied node
 abbrev pub copy_of : List (ℕ × ℕ) → ℕ → ℕ
 copy_of [] i = i
 copy_of (c ∷ copies) i = if c.0 == i then c.1 else copy_of copies i
 
-abbrev pub copy_node : Position → List (ℕ × Form) → List (ℕ × ℕ) → Node → Elab ℕ
-copy_node p rs copies (node.Atom kind terms c) = substituted p rs (constant_form (pos 0)) terms >>= λ g. atom p kind g.terms (new_constant kind (c -ℤ g.constant))
+abbrev pub copy_node : Position → List (ℕ × Meaning) → List (ℕ × ℕ) → Node → Elab ℕ
+copy_node p rs copies (node.Atom kind terms c) = copied_atom p rs kind terms c (truth_for rs terms)
 copy_node p rs copies (node.Not a) = make (node.Not (copy_of copies a)) p
 copy_node p rs copies (node.And a b) = make (node.And (copy_of copies a) (copy_of copies b)) p
 copy_node p rs copies (node.Or a b) = make (node.Or (copy_of copies a) (copy_of copies b)) p
@@ -210,7 +249,7 @@ copy_node p rs copies (node.Exists v a) = make_exists v (copy_of copies a) p
 copy_node p rs copies node.True = make node.True p
 copy_node p rs copies node.False = make node.False p
 
-abbrev pub copy_nodes : Position → List (ℕ × Form) → List (Node × Position) → List (ℕ × ℕ) → List ℕ → Elab (List (ℕ × ℕ))
+abbrev pub copy_nodes : Position → List (ℕ × Meaning) → List (Node × Position) → List (ℕ × ℕ) → List ℕ → Elab (List (ℕ × ℕ))
 copy_nodes p rs f copies [] = give copies
 copy_nodes p rs f copies (i ∷ rest) = copy_node p rs copies (node_at f i) >>= λ j. copy_nodes p rs f ((i, j) ∷ copies) rest
 
@@ -226,18 +265,18 @@ reached f a = filter (reaches_within a f a) (range_with_len 0 (a + 1))
 abbrev pub nodes_now : Elab (List (Node × Position))
 nodes_now w = Ok (w.formula, w)
 
-abbrev pub copy : Position → List (ℕ × Form) → ℕ → Elab ℕ
+abbrev pub copy : Position → List (ℕ × Meaning) → ℕ → Elab ℕ
 copy p rs body = do
   f ← nodes_now
   copies ← copy_nodes p rs f [] (reached f body)
   give (copy_of copies body)
 
-abbrev pub instance_of : Position → List (ℕ × Form) → Meaning → Elab Meaning
+abbrev pub instance_of : Position → List (ℕ × Meaning) → Meaning → Elab Meaning
 instance_of p rs (Int f) = as_form (substituted p rs (constant_form f.constant) f.terms)
 instance_of p rs (Truth i) = as_truth (copy p rs i)
 
-abbrev pub call : Position → List ℕ × Meaning → List Argument → Elab Meaning
+abbrev pub call : Position → List ℕ × List Sort × Meaning → List Argument → Elab Meaning
 call p definition xs = do
-  _ ← require (length xs == length definition.0) Sort p
-  fs ← each integer xs
-  instance_of p (zip definition.0 fs) definition.1
+  _ ← require (length xs == length definition.0) WrongSort p
+  rs ← replacements definition.0 definition.1 xs
+  instance_of p rs definition.2

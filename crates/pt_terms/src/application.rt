@@ -28,7 +28,7 @@ impl Elaborator {
     ghost use Rattle.pt_terms.specs.Chains.{joined};
     ghost use Rattle.pt_terms.specs.Elaboration.{give};
     ghost use Rattle.pt_terms.specs.Gives.{Gives, Grows};
-    ghost use Rattle.pt_terms.specs.Sound.{IsFormBelow, IsMeaningIn};
+    ghost use Rattle.pt_terms.specs.Sound.{IsFormOver, IsMeaningIn};
 
     fn apply_not(
         &mut self,
@@ -242,9 +242,9 @@ impl Elaborator {
     }
 
     fn copied(&self, alloc: Global, f: &Form) -> Result<Form, ReadRefusal>
-        requires { IsFormBelow self.now.given f.now }
+        requires { IsFormOver self.now.given f.now }
         ensures gives { Gives (λ g. g) result self.now self.now (give f.now) }
-        ensures range { IfOk result (IsFormBelow self.now.given) }
+        ensures range { IfOk result (IsFormOver self.now.given) }
     {
         Ok(copy_of_form(alloc, f)?)
     }

@@ -3,7 +3,7 @@ ghost use Rattle.std.specs.Prelude.{◌≡◌, IfOk};
 ghost use Rattle.pt_terms.specs.Elaboration.{constant_form, variable_form};
 
 use crate::elaborator::Elaborator;
-use crate::meaning::Meaning;
+use crate::meaning::{Bound, Meaning};
 use crate::refusals::{form_refusal, refused};
 use pt_digits::NoMemory;
 use pt_formula::form::{difference, scale, sum};
@@ -57,6 +57,19 @@ pub fn copy_of_meaning(alloc: Global, meaning: &Meaning) -> Result<Meaning, NoMe
     }
 }
 
+/// The same once more.
+pub(crate) fn copy_of_bound(alloc: Global, bound: &Bound) -> Result<Bound, NoMemory>
+    ensures { IfOk result (λ b. b ≡ bound.now) }
+{
+    match bound {
+        Bound::Variable(v, sort) => Ok(Bound::Variable(*v, *sort)),
+        Bound::Term(meaning) => {
+            let copy = copy_of_meaning(alloc, meaning)?;
+            Ok(Bound::Term(copy))
+        }
+    }
+}
+
 /// A meaning of a term, and the place of the term.
 pub type Argument = (Position, Meaning);
 
@@ -67,13 +80,13 @@ impl Elaborator {
     ghost use Rattle.pt_terms.specs.Elaboration.{form, each};
     ghost use Rattle.pt_terms.specs.Theory.{integer, truth, truth_of, sums, differences, product, products, Argument};
     ghost use Rattle.pt_terms.specs.Gives.{Gives};
-    ghost use Rattle.pt_terms.specs.Sound.{IsFormBelow, IsMeaningIn};
+    ghost use Rattle.pt_terms.specs.Sound.{IsFormOver, IsMeaningIn};
 
     /// The form that an argument is.
     pub(crate) fn integer<'a>(&self, argument: &'a Argument) -> Result<&'a Form, ReadRefusal>
         requires { IsMeaningIn self.now argument.now.1 }
         ensures gives { Gives (λ f. f.now) result self.now self.now (integer argument.now) }
-        ensures range { IfOk result (λ f. IsFormBelow self.now.given f.now) }
+        ensures range { IfOk result (λ f. IsFormOver self.now.given f.now) }
     {
         match &argument.1 {
             Meaning::Int(f) => Ok(f),
@@ -89,7 +102,7 @@ impl Elaborator {
     ) -> Result<Vec<&'a Form>, ReadRefusal>
         requires { All (λ (a : Argument). IsMeaningIn self.now a.1) arguments.now }
         ensures gives { Gives (λ v. map (λ f. f.now) v.items) result self.now self.now (each integer arguments.now) }
-        ensures range { IfOk result (λ v. All (λ f. IsFormBelow self.now.given f.now) v.items) }
+        ensures range { IfOk result (λ v. All (λ f. IsFormOver self.now.given f.now) v.items) }
     {
         let mut forms = Vec::new(alloc);
         for a in arguments {
@@ -149,10 +162,10 @@ impl Elaborator {
         b: &Form,
         at: Position,
     ) -> Result<Form, ReadRefusal>
-        requires a { IsFormBelow self.now.given a.now }
-        requires b { IsFormBelow self.now.given b.now }
+        requires a { IsFormOver self.now.given a.now }
+        requires b { IsFormOver self.now.given b.now }
         ensures gives { Gives (λ f. f) result self.now self.now (form (form_sum a.now b.now) at) }
-        ensures range { IfOk result (IsFormBelow self.now.given) }
+        ensures range { IfOk result (IsFormOver self.now.given) }
     {
         match sum(alloc, a, b) {
             Ok(f) => Ok(f),
@@ -168,10 +181,10 @@ impl Elaborator {
         b: &Form,
         at: Position,
     ) -> Result<Form, ReadRefusal>
-        requires a { IsFormBelow self.now.given a.now }
-        requires b { IsFormBelow self.now.given b.now }
+        requires a { IsFormOver self.now.given a.now }
+        requires b { IsFormOver self.now.given b.now }
         ensures gives { Gives (λ f. f) result self.now self.now (form (form_difference a.now b.now) at) }
-        ensures range { IfOk result (IsFormBelow self.now.given) }
+        ensures range { IfOk result (IsFormOver self.now.given) }
     {
         match difference(alloc, a, b) {
             Ok(f) => Ok(f),
@@ -187,9 +200,9 @@ impl Elaborator {
         f: &Form,
         at: Position,
     ) -> Result<Form, ReadRefusal>
-        requires { IsFormBelow self.now.given f.now }
+        requires { IsFormOver self.now.given f.now }
         ensures gives { Gives (λ g. g) result self.now self.now (form (form_scale by f.now) at) }
-        ensures range { IfOk result (IsFormBelow self.now.given) }
+        ensures range { IfOk result (IsFormOver self.now.given) }
     {
         match scale(alloc, f, by) {
             Ok(g) => Ok(g),
@@ -205,10 +218,10 @@ impl Elaborator {
         g: &Form,
         at: Position,
     ) -> Result<Form, ReadRefusal>
-        requires f { IsFormBelow self.now.given f.now }
-        requires g { IsFormBelow self.now.given g.now }
+        requires f { IsFormOver self.now.given f.now }
+        requires g { IsFormOver self.now.given g.now }
         ensures gives { Gives (λ h. h) result self.now self.now (product at f.now g.now) }
-        ensures range { IfOk result (IsFormBelow self.now.given) }
+        ensures range { IfOk result (IsFormOver self.now.given) }
     {
         if f.terms.as_slice().is_empty() {
             self.scale(alloc, f.constant, g, at)
@@ -227,10 +240,10 @@ impl Elaborator {
         first: Form,
         rest: &[&Form],
     ) -> Result<Form, ReadRefusal>
-        requires first { IsFormBelow self.now.given first }
-        requires rest { All (λ f. IsFormBelow self.now.given f.now) rest.now }
+        requires first { IsFormOver self.now.given first }
+        requires rest { All (λ f. IsFormOver self.now.given f.now) rest.now }
         ensures gives { Gives (λ h. h) result self.now self.now (sums at first (map (λ f. f.now) rest.now)) }
-        ensures range { IfOk result (IsFormBelow self.now.given) }
+        ensures range { IfOk result (IsFormOver self.now.given) }
     {
         let mut so_far = first;
         for f in rest {
@@ -247,10 +260,10 @@ impl Elaborator {
         first: Form,
         rest: &[&Form],
     ) -> Result<Form, ReadRefusal>
-        requires first { IsFormBelow self.now.given first }
-        requires rest { All (λ f. IsFormBelow self.now.given f.now) rest.now }
+        requires first { IsFormOver self.now.given first }
+        requires rest { All (λ f. IsFormOver self.now.given f.now) rest.now }
         ensures gives { Gives (λ h. h) result self.now self.now (differences at first (map (λ f. f.now) rest.now)) }
-        ensures range { IfOk result (IsFormBelow self.now.given) }
+        ensures range { IfOk result (IsFormOver self.now.given) }
     {
         let mut so_far = first;
         for f in rest {
@@ -267,10 +280,10 @@ impl Elaborator {
         first: Form,
         rest: &[&Form],
     ) -> Result<Form, ReadRefusal>
-        requires first { IsFormBelow self.now.given first }
-        requires rest { All (λ f. IsFormBelow self.now.given f.now) rest.now }
+        requires first { IsFormOver self.now.given first }
+        requires rest { All (λ f. IsFormOver self.now.given f.now) rest.now }
         ensures gives { Gives (λ h. h) result self.now self.now (products at first (map (λ f. f.now) rest.now)) }
-        ensures range { IfOk result (IsFormBelow self.now.given) }
+        ensures range { IfOk result (IsFormOver self.now.given) }
     {
         let mut so_far = first;
         for f in rest {

@@ -2,23 +2,23 @@
 ghost use Rattle.std.specs.Prelude.{◌≡◌, ◌<◌, ◌≤◌, [], ◌∷◌, ◌++◌, ◌-◌, List, length, map, drop, option_copied, slice_get, reverse, Some, IfOk, OnOk};
 ghost use Rattle.pt_grammar.specs.Words.{Name};
 
-use crate::arithmetic::copy_of_meaning;
-use crate::meaning::Meaning;
+use crate::arithmetic::copy_of_bound;
+use crate::meaning::Bound;
 use crate::numbering::number_of;
 use indexmap::IndexSet;
 use pt_digits::NoMemory;
 use std::alloc::Global;
 use std::marker::Model;
 
-/// A bound name by its number, what it means, and the place of the binding that it hides.
+/// A bound name by its number, what it stands for, and the place of the binding that it hides.
 #[derive(Drop)]
 struct Binding {
     name: usize,
-    meaning: Meaning,
+    stands_for: Bound,
     hidden: Option<usize>,
 }
 
-/// Bound names with what they mean; a contract sees the innermost first. Names have numbers, and of each number the place of its newest
+/// Bound names with what they stand for; a contract sees the innermost first. Names have numbers, and of each number the place of its newest
 /// binding is kept, so a look-up is one hash, and so are adding and taking away a binding.
 #[derive(Drop)]
 pub struct Bindings {
@@ -30,9 +30,9 @@ pub struct Bindings {
 impl Model for Bindings {
     ghost use Rattle.std.specs.Prelude.{List};
     ghost use Rattle.pt_grammar.specs.Words.{Name};
-    ghost use Rattle.pt_terms.specs.declared.meaning.Meaning.{Meaning};
+    ghost use Rattle.pt_terms.specs.declared.meaning.Bound.{Bound};
 
-    ghost Value = { List (Name × Meaning) };
+    ghost Value = { List (Name × Bound) };
 
     ghost use Rattle.pt_terms.specs.Bindings.{shown, AreIndexed};
 
@@ -42,7 +42,6 @@ impl Model for Bindings {
 }
 
 impl Bindings {
-    ghost use Rattle.pt_terms.specs.declared.meaning.Meaning.{Meaning as MeaningValue};
     ghost use Rattle.pt_terms.specs.Names.{find_bound};
     ghost use Rattle.pt_grammar.specs.Words.{is_among};
 
@@ -64,13 +63,13 @@ impl Bindings {
         self.stack.len()
     }
 
-    /// What the name means, by one hash.
-    pub(crate) fn find(&self, name: &[u8]) -> Option<&Meaning>
+    /// What the name stands for, by one hash.
+    pub(crate) fn find(&self, name: &[u8]) -> Option<&Bound>
         ensures { option_copied result ≡ find_bound self.now name.now }
     {
         match self.names.get_full(name) {
             Some((number, _)) => match self.newest[number] {
-                Some(place) => Some(&self.stack[place].meaning),
+                Some(place) => Some(&self.stack[place].stands_for),
                 None => None,
             },
             None => None,
@@ -89,15 +88,15 @@ impl Bindings {
     }
 
     /// Binds a name, which hides an earlier binding of it.
-    pub fn push(&mut self, alloc: Global, name: &[u8], meaning: Meaning) -> Result<(), NoMemory>
-        ensures { OnOk result (self.new ≡ (name.now, meaning) ∷ self.old) }
+    pub fn push(&mut self, alloc: Global, name: &[u8], stands_for: Bound) -> Result<(), NoMemory>
+        ensures { OnOk result (self.new ≡ (name.now, stands_for) ∷ self.old) }
     {
         let number = number_of(alloc, &mut self.names, &mut self.newest, name)?;
         let hidden = self.newest[number];
         let place = self.stack.len();
         let binding = Binding {
             name: number,
-            meaning,
+            stands_for,
             hidden,
         };
         self.stack.push(binding)?;
@@ -128,13 +127,13 @@ impl Bindings {
         }
     }
 
-    /// The name and the meaning at a place, of the outermost first.
-    fn entry(&self, place: usize) -> (&[u8], &Meaning)
+    /// The name at a place, and what it stands for, of the outermost first.
+    fn entry(&self, place: usize) -> (&[u8], &Bound)
         requires { place < length self.now }
         ensures { slice_get (reverse self.now) place ≡ Some (result.0.now, result.1.now) }
     {
         let binding = &self.stack[place];
-        (self.names[binding.name].as_slice(), &binding.meaning)
+        (self.names[binding.name].as_slice(), &binding.stands_for)
     }
 
     /// Binds all these names, in their order.
@@ -142,8 +141,8 @@ impl Bindings {
         ensures { OnOk result (self.new ≡ inner.now ++ self.old) }
     {
         for place in 0..inner.len() {
-            let (name, meaning) = inner.entry(place);
-            let copy = copy_of_meaning(alloc, meaning)?;
+            let (name, stands_for) = inner.entry(place);
+            let copy = copy_of_bound(alloc, stands_for)?;
             self.push(alloc, name, copy)?;
         }
         Ok(())

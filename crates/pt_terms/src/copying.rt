@@ -1,10 +1,12 @@
-// Copies of nodes with forms in the places of parameters.
+// Copies of nodes with arguments in the places of parameters.
 ghost use Rattle.std.specs.Prelude.{◌≡◌, ◌^◌, ◌<◌, ◌≤ℤ◌, ℤ};
 ghost use Rattle.pt_atoms.specs.Atoms.{IsModulus};
 ghost use Rattle.pt_terms.specs.Theory.{new_constant};
 
 use crate::arithmetic::form_of_number;
 use crate::elaborator::Elaborator;
+use crate::meaning::{Meaning, Sort};
+use crate::replacing::{Replacement, replacement};
 use pt_formula::{Form, Kind, Node, Op, Position};
 use pt_syntax::ReadRefusal;
 use std::alloc::Global;
@@ -21,14 +23,17 @@ fn constant_of(kind: Kind, constant: i128) -> i128
 }
 
 impl Elaborator {
-    ghost use Rattle.std.specs.Prelude.{◌≡◌, ◌<◌, ◌≤◌, ◌-ℤ◌, [], length, IfOk, map, zip, All};
+    ghost use Rattle.std.specs.Prelude.{◌≡◌, ◌<◌, ◌≤◌, ◌-ℤ◌, [], length, ◌∷◌, pos, IfOk, map, All};
     ghost use Rattle.pt_formula.specs.declared.node.Node.TheVariants as node;
     ghost use Rattle.pt_formula.specs.Formulas.{node_at};
     ghost use Rattle.pt_atoms.specs.Atoms.{IsModulus};
-    ghost use Rattle.pt_terms.specs.Theory.{atom, new_constant, copy};
+    ghost use Rattle.pt_terms.specs.Theory.{atom, new_constant, copied_atom, truth_for, copy};
+    ghost use Rattle.pt_atoms.specs.declared.Kind.TheVariants.{Mod};
+    ghost use Rattle.pt_terms.specs.declared.meaning.Sort.TheVariants as sort;
     ghost use Rattle.pt_terms.specs.Copies.{copied_node, next_number, numbered, new_number};
     ghost use Rattle.pt_terms.specs.Gives.{Gives, Grows};
-    ghost use Rattle.pt_terms.specs.Sound.{IsFormBelow, AreTermsBelow};
+    ghost use Rattle.pt_terms.specs.Sorts.{HasSort, truth_atom};
+    ghost use Rattle.pt_terms.specs.Sound.{IsFormOver, AreReplacing};
 
     /// The new number of a node; a node without one stands for itself.
     fn new_number(&self, numbers: &[u32], i: u32) -> u32
@@ -53,7 +58,7 @@ impl Elaborator {
         g: &Form,
     ) -> Result<u32, ReadRefusal>
         requires kind { IsModulus kind }
-        requires g { IsFormBelow self.old.given g.now }
+        requires g { IsFormOver self.old.given g.now }
         ensures gives { Gives (λ i. i) result self.old self.new (atom at kind g.now.terms (new_constant kind (constant -ℤ g.now.constant))) }
         ensures range { IfOk result (λ i. i < length self.new.formula) }
         ensures grows { Grows self.old self.new }
@@ -62,20 +67,40 @@ impl Elaborator {
         self.relation_atom(alloc, kind, g.terms.as_slice(), new, at)
     }
 
+    /// The copy of the atom that a variable of sort Bool makes: the node that replaces the variable, or such an atom.
+    fn copy_truth(
+        &mut self,
+        alloc: Global,
+        at: Position,
+        replacements: &[Replacement<'_>],
+        v: u32,
+    ) -> Result<u32, ReadRefusal>
+        requires replacements { AreReplacing self.old (map (λ r. (r.0, r.1.now)) replacements.now) }
+        requires sort { HasSort self.old.given v sort.Bool }
+        ensures gives { Gives (λ i. i) result self.old self.new (copied_atom at (map (λ r. (r.0, r.1.now)) replacements.now) (Mod 2) ((v, pos 1) ∷ []) (pos 1) (truth_for (map (λ r. (r.0, r.1.now)) replacements.now) ((v, pos 1) ∷ []))) }
+        ensures range { IfOk result (λ i. i < length self.new.formula) }
+        ensures grows { Grows self.old self.new }
+    {
+        match replacement(replacements, v) {
+            Some(Meaning::Bool(i)) => Ok(*i),
+            Some(Meaning::Int(_)) => unreachable!(),
+            None => self.truth_atom(alloc, v, at),
+        }
+    }
+
     /// The copy of a node, made of the copies of its children.
     fn copy_node(
         &mut self,
         alloc: Global,
         at: Position,
-        parameters: &[u32],
-        forms: &[&Form],
+        replacements: &[Replacement<'_>],
         numbers: &[u32],
         i: u32,
     ) -> Result<u32, ReadRefusal>
         requires i { i < length self.old.formula }
-        requires forms { All (λ f. IsFormBelow self.old.given f.now) forms.now }
+        requires replacements { AreReplacing self.old (map (λ r. (r.0, r.1.now)) replacements.now) }
         requires numbers { All (λ j. j < length self.old.formula) numbers.now }
-        ensures gives { Gives (λ i. i) result self.old self.new (copied_node at (zip parameters.now (map (λ f. f.now) forms.now)) (new_number numbers.now) (node_at self.old.formula i)) }
+        ensures gives { Gives (λ i. i) result self.old self.new (copied_node at (map (λ r. (r.0, r.1.now)) replacements.now) (new_number numbers.now) (node_at self.old.formula i)) }
         ensures range { IfOk result (λ i. i < length self.new.formula) }
         ensures grows { Grows self.old self.new }
     {
@@ -89,9 +114,15 @@ impl Elaborator {
             } => {
                 let kind = *kind;
                 let constant = *constant;
-                let zero = form_of_number(alloc, 0);
-                let g = self.substituted(alloc, at, parameters, forms, zero, terms.as_slice())?;
-                self.copy_atom(alloc, at, kind, constant, &g)
+                let v = terms.as_slice()[0].0;
+                match self.sort(v) {
+                    Sort::Int => {
+                        let zero = form_of_number(alloc, 0);
+                        let g = self.substituted(alloc, at, replacements, zero, terms.as_slice())?;
+                        self.copy_atom(alloc, at, kind, constant, &g)
+                    }
+                    Sort::Bool => self.copy_truth(alloc, at, replacements, v),
+                }
             }
             Node::Not(a) => {
                 let a = self.new_number(numbers, *a);
@@ -130,22 +161,21 @@ impl Elaborator {
         &mut self,
         alloc: Global,
         at: Position,
-        parameters: &[u32],
-        forms: &[&Form],
+        replacements: &[Replacement<'_>],
         numbers: &[u32],
         mark: bool,
         i: u32,
     ) -> Result<u32, ReadRefusal>
         requires i { i < length self.old.formula }
         requires place { i ≡ length numbers.now }
-        requires forms { All (λ f. IsFormBelow self.old.given f.now) forms.now }
+        requires replacements { AreReplacing self.old (map (λ r. (r.0, r.1.now)) replacements.now) }
         requires numbers { All (λ j. j < length self.old.formula) numbers.now }
-        ensures gives { Gives (λ j. j) result self.old self.new (next_number at (zip parameters.now (map (λ f. f.now) forms.now)) self.old.formula numbers.now mark) }
+        ensures gives { Gives (λ j. j) result self.old self.new (next_number at (map (λ r. (r.0, r.1.now)) replacements.now) self.old.formula numbers.now mark) }
         ensures range { IfOk result (λ j. j < length self.new.formula) }
         ensures grows { Grows self.old self.new }
     {
         if mark {
-            self.copy_node(alloc, at, parameters, forms, numbers, i)
+            self.copy_node(alloc, at, replacements, numbers, i)
         } else {
             Ok(i)
         }
@@ -156,22 +186,21 @@ impl Elaborator {
         &mut self,
         alloc: Global,
         at: Position,
-        parameters: &[u32],
-        forms: &[&Form],
+        replacements: &[Replacement<'_>],
         marks: &[bool],
         count: u32,
     ) -> Result<Vec<u32>, ReadRefusal>
         requires marks { length marks.now ≡ count }
         requires count { count ≤ length self.old.formula }
-        requires forms { All (λ f. IsFormBelow self.old.given f.now) forms.now }
-        ensures gives { Gives (λ v. v.items) result self.old self.new (numbered at (zip parameters.now (map (λ f. f.now) forms.now)) self.old.formula [] marks.now) }
+        requires replacements { AreReplacing self.old (map (λ r. (r.0, r.1.now)) replacements.now) }
+        ensures gives { Gives (λ v. v.items) result self.old self.new (numbered at (map (λ r. (r.0, r.1.now)) replacements.now) self.old.formula [] marks.now) }
         ensures range { IfOk result (λ v. All (λ j. j < length self.new.formula) v.items) }
         ensures grows { Grows self.old self.new }
     {
         let mut numbers = Vec::new(alloc);
         for i in 0..count {
             let mark = marks[i as usize];
-            match self.copy_next(alloc, at, parameters, forms, numbers.as_slice(), mark, i) {
+            match self.copy_next(alloc, at, replacements, numbers.as_slice(), mark, i) {
                 Ok(j) => numbers.push(j)?,
                 Err(refusal) => return Err(refusal),
             }
@@ -184,19 +213,18 @@ impl Elaborator {
         &mut self,
         alloc: Global,
         at: Position,
-        parameters: &[u32],
-        forms: &[&Form],
+        replacements: &[Replacement<'_>],
         body: u32,
     ) -> Result<u32, ReadRefusal>
         requires body { body < length self.old.formula }
-        requires forms { All (λ f. IsFormBelow self.old.given f.now) forms.now }
-        ensures gives { Gives (λ i. i) result self.old self.new (copy at (zip parameters.now (map (λ f. f.now) forms.now)) body) }
+        requires replacements { AreReplacing self.old (map (λ r. (r.0, r.1.now)) replacements.now) }
+        ensures gives { Gives (λ i. i) result self.old self.new (copy at (map (λ r. (r.0, r.1.now)) replacements.now) body) }
         ensures range { IfOk result (λ i. i < length self.new.formula) }
         ensures grows { Grows self.old self.new }
     {
         self.formula().is_formula();
         let marks = self.marks(alloc, body)?;
-        match self.copy_nodes(alloc, at, parameters, forms, marks.as_slice(), body + 1) {
+        match self.copy_nodes(alloc, at, replacements, marks.as_slice(), body + 1) {
             Ok(numbers) => Ok(self.new_number(numbers.as_slice(), body)),
             Err(refusal) => return Err(refusal),
         }

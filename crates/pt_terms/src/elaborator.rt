@@ -8,6 +8,7 @@ ghost use Rattle.pt_formula.specs.Formulas.{node_tree, tree_of, IsFormula};
 ghost use Rattle.pt_terms.specs.Sound.{AreBelow};
 ghost use Rattle.pt_terms.specs.Below.{BindsBelow};
 
+use crate::meaning::Sort;
 use crate::refusals::builder_refusal;
 use pt_digits::NoMemory;
 use pt_formula::laws::{
@@ -26,12 +27,12 @@ fn appended_nodes_keep_variables_below()
     trees_are_made_of_those_of_the_children();
 }
 
-/// A formula that grows, and how many variable numbers have been given out. Each variable that is free in a node or bound by one has
-/// been given out.
+/// A formula that grows, and the sorts of the variables that have been given out, by their numbers. Each variable that is free in a
+/// node or bound by one has been given out. An atom is over variables of sort Int, or says that one variable of sort Bool is odd.
 #[derive(Drop)]
 pub struct Elaborator {
     formula: Formula,
-    given: u32,
+    sorts: Vec<Sort>,
 }
 
 impl Model for Elaborator {
@@ -39,43 +40,57 @@ impl Model for Elaborator {
 
     ghost Value = { Work };
 
-    ghost use Rattle.pt_terms.specs.Sound.{AreBelow};
+    ghost use Rattle.pt_terms.specs.Sound.{IsKept};
 
-    ghost view = { λ e. record { formula = e.formula; given = e.given } };
+    ghost view = { λ e. record { formula = e.formula; given = e.sorts.items } };
 
-    ghost invariant = { λ e. AreBelow e.formula e.given };
+    ghost invariant = { λ e. IsKept e.formula e.sorts.items };
 }
 
 /// Each call adds at most one node or one variable number. After a refusal nothing has changed.
 impl Elaborator {
-    ghost use Rattle.std.specs.Prelude.{◌≡◌, ◌<◌, ◌≤◌, length, pos, IfOk};
+    ghost use Rattle.std.specs.Prelude.{◌≡◌, ◌<◌, ◌≤◌, [], length, IfOk};
     ghost use Rattle.pt_atoms.specs.Atoms.{IsModulus};
     ghost use Rattle.pt_formula.specs.Forms.{AreTerms};
     ghost use Rattle.pt_formula.specs.Formulas.{start, truth_node, op_node, IsFormula};
     ghost use Rattle.pt_formula.specs.declared.node.Node.TheVariants as node;
     ghost use Rattle.pt_terms.specs.Elaboration.{make, make_exists, fresh};
     ghost use Rattle.pt_terms.specs.Gives.{Gives, Grows};
-    ghost use Rattle.pt_terms.specs.Sound.{AreTermsBelow};
+    ghost use Rattle.pt_terms.specs.declared.meaning.Sort.TheVariants as sort;
+    ghost use Rattle.pt_terms.specs.Sorts.{HasSort, AreIntegers, AreSorted, truth_atom};
 
-    /// Node 0 alone, and no variable number given.
+    /// Node 0 alone, and no variable given out.
     pub fn new(alloc: Global) -> Result<Elaborator, NoMemory>
-        ensures { IfOk result (λ e. e ≡ record { formula = start; given = 0 }) }
+        ensures { IfOk result (λ e. e ≡ record { formula = start; given = [] }) }
     {
         let formula = Formula::new(alloc)?;
-        Ok(Elaborator { formula, given: 0 })
+        Ok(Elaborator {
+            formula,
+            sorts: Vec::new(alloc),
+        })
     }
 
     pub fn formula(&self) -> &Formula
         ensures value { result.now ≡ self.now.formula }
-        ensures below { AreBelow self.now.formula self.now.given }
+        ensures below { AreBelow self.now.formula (length self.now.given) }
+        ensures sorted { AreSorted self.now.formula self.now.given }
     {
         &self.formula
     }
 
+    /// How many variables have been given out.
     pub fn given(&self) -> u32
-        ensures { result ≡ self.now.given }
+        ensures { result ≡ length self.now.given }
     {
-        self.given
+        self.sorts.len() as u32
+    }
+
+    /// The sort of a variable.
+    pub fn sort(&self, v: u32) -> Sort
+        requires { v < length self.now.given }
+        ensures { HasSort self.now.given v result }
+    {
+        self.sorts[v as usize]
     }
 
     /// A node True or False.
@@ -99,6 +114,28 @@ impl Elaborator {
         }
     }
 
+    /// The atom that a variable of sort Bool makes.
+    pub(crate) fn truth_atom(
+        &mut self,
+        alloc: Global,
+        v: u32,
+        at: Position,
+    ) -> Result<u32, ReadRefusal>
+        requires { HasSort self.old.given v sort.Bool }
+        ensures gives { Gives (λ i. i) result self.old self.new (make (truth_atom v) at) }
+        ensures range { IfOk result (λ i. i < length self.new.formula) }
+        ensures grows { Grows self.old self.new }
+    {
+        appended_nodes_keep_variables_below();
+        self.formula.is_formula();
+        let made = self.formula.atom(alloc, Kind::Mod(2), &[(v, 1)], 1, at);
+        self.formula.is_formula();
+        match made {
+            Ok(id) => Ok(id),
+            Err(fault) => Err(builder_refusal(fault, at)),
+        }
+    }
+
     /// The node of an atom with at least one term.
     pub(crate) fn atom(
         &mut self,
@@ -110,7 +147,7 @@ impl Elaborator {
     ) -> Result<u32, ReadRefusal>
         requires some { 0 < length terms.now }
         requires terms { AreTerms terms.now }
-        requires below { AreTermsBelow self.old.given terms.now }
+        requires sorts { AreIntegers self.old.given terms.now }
         requires kind { IsModulus kind }
         ensures gives { Gives (λ i. i) result self.old self.new (make (node.Atom kind terms.now constant) at) }
         ensures range { IfOk result (λ i. i < length self.new.formula) }
@@ -177,7 +214,7 @@ impl Elaborator {
         at: Position,
     ) -> Result<u32, ReadRefusal>
         requires a { a < length self.old.formula }
-        requires v { v < self.old.given }
+        requires v { v < length self.old.given }
         ensures gives { Gives (λ i. i) result self.old self.new (make_exists v a at) }
         ensures range { IfOk result (λ i. i < length self.new.formula) }
         ensures grows { Grows self.old self.new }
@@ -192,18 +229,19 @@ impl Elaborator {
         }
     }
 
-    /// The next variable number. Where all 2^32 - 1 are given out, which no text is long enough for, that is want of memory.
-    pub fn fresh(&mut self) -> Result<u32, ReadRefusal>
-        ensures gives { Gives (λ v. v) result self.old self.new fresh }
-        ensures range { IfOk result (λ v. v < self.new.given) }
+    /// The next variable number, for a variable of this sort. Where all 2^32 - 1 are given out, which no text is long enough for, that is
+    /// want of memory.
+    pub fn fresh(&mut self, sort: Sort) -> Result<u32, ReadRefusal>
+        ensures gives { Gives (λ v. v) result self.old self.new (fresh sort) }
+        ensures range { IfOk result (λ v. HasSort self.new.given v sort) }
         ensures grows { Grows self.old self.new }
     {
-        let v = self.given;
-        if v == u32::MAX {
+        let v = self.sorts.len();
+        if v >= u32::MAX as usize {
             return Err(no_memory());
         }
-        self.given = v + 1;
-        Ok(v)
+        self.sorts.push(sort)?;
+        Ok(v as u32)
     }
 }
 
@@ -219,7 +257,6 @@ impl Elaborator {
         ensures is { result.now ≡ node_at self.now.formula i }
         ensures range { IsNodeBelow self.now.given i result.now }
     {
-        trees_are_made_of_those_of_the_children();
         self.formula.is_formula();
         self.formula.node(i)
     }

@@ -1,24 +1,31 @@
 // What terms see.
 ghost use Rattle.std.specs.Prelude.{◌≡◌, ◌≤◌, ◌∷◌, [], length, IfOk, OnOk};
-ghost use Rattle.pt_terms.specs.Names.{Env, bind, look_up, plain_use, head_use};
+ghost use Rattle.pt_terms.specs.Names.{Env, bind, look_up, head_use};
+ghost use Rattle.pt_terms.specs.Layers.{plain_bound};
+ghost use Rattle.pt_terms.specs.Sorts.{HaveSorts};
 ghost use Rattle.pt_terms.specs.Environment.{outermost, inside};
 ghost use Rattle.pt_terms.specs.Elaboration.{Work};
 ghost use Rattle.pt_terms.specs.Gives.{Says};
-ghost use Rattle.pt_terms.specs.Sound.{IsMeaningIn, IsEnvIn};
+ghost use Rattle.pt_terms.specs.Sound.{IsMeaningIn, IsBoundIn, IsEnvIn};
 ghost use Rattle.std.specs.Prelude.{option_map, IfSome};
-ghost use Rattle.pt_terms.specs.Elaboration.{give};
+ghost use Rattle.std.specs.Prelude.{Some, None};
+ghost use Rattle.pt_formula.specs.declared.node.Position.{Position as PositionValue};
+ghost use Rattle.pt_terms.specs.Names.{use_of};
 ghost use Rattle.pt_terms.specs.Symbols.{shown_use};
 ghost use Rattle.pt_terms.specs.Sound.{IsUseIn};
 
-use crate::arithmetic::{copy_of_meaning, form_of_variable};
+use crate::arithmetic::{copy_of_bound, copy_of_meaning};
 use crate::bindings::Bindings;
-use crate::meaning::Meaning;
+use crate::meaning::{Bound, Meaning, Sort};
 use crate::refusals::refused;
 use crate::symbols::{Symbols, Use};
 use pt_digits::NoMemory;
 use pt_syntax::{Position, ReadKind, ReadRefusal};
 use std::alloc::Global;
 use std::marker::Model;
+
+/// The parameters of a definition, their sorts, and its meaning.
+pub(crate) type Head<'s> = (&'s [u32], &'s [Sort], &'s Meaning);
 
 /// Names that are bound in a term, in front of the live names. A look-up is at most two hashes.
 #[derive(Drop)]
@@ -66,11 +73,11 @@ impl<'s> Environment<'s> {
         &mut self,
         alloc: Global,
         name: &[u8],
-        meaning: Meaning,
+        stands_for: Bound,
     ) -> Result<(), NoMemory>
-        ensures { OnOk result (self.new ≡ bind ((name.now, meaning) ∷ []) self.old) }
+        ensures { OnOk result (self.new ≡ bind ((name.now, stands_for) ∷ []) self.old) }
     {
-        self.bound.push(alloc, name, meaning)
+        self.bound.push(alloc, name, stands_for)
     }
 
     /// Binds all these names.
@@ -81,13 +88,9 @@ impl<'s> Environment<'s> {
     }
 
     /// The definition that a name stands for as the head of an application.
-    pub(crate) fn head(
-        &self,
-        name: &[u8],
-        at: Position,
-    ) -> Result<(&'s [u32], &'s Meaning), ReadRefusal>
-        ensures says { Says (λ d. (d.0.now, d.1.now)) result (head_use at (look_up self.now name.now)) }
-        ensures range { (w : Work) → IsEnvIn w self.now → IfOk result (λ d. IsMeaningIn w d.1.now) }
+    pub(crate) fn head(&self, name: &[u8], at: Position) -> Result<Head<'s>, ReadRefusal>
+        ensures says { Says (λ d. (d.0.now, d.1.now, d.2.now)) result (head_use at (look_up self.now name.now)) }
+        ensures range { (w : Work) → IsEnvIn w self.now → IfOk result (λ d. IsMeaningIn w d.2.now × HaveSorts w.given d.0.now d.1.now) }
     {
         if self.bound.has(name) {
             return Err(refused(ReadKind::Sort, at));
@@ -95,53 +98,54 @@ impl<'s> Environment<'s> {
         let live: &'s Symbols = self.live;
         match live.find(name) {
             None => Err(refused(ReadKind::Unknown, at)),
-            Some(Use::Constant(_)) => Err(refused(ReadKind::Sort, at)),
-            Some(Use::Definition(parameters, meaning)) => {
+            Some(Use::Constant(..)) => Err(refused(ReadKind::Sort, at)),
+            Some(Use::Definition(parameters, sorts, meaning)) => {
                 if parameters.is_empty() {
                     Err(refused(ReadKind::Sort, at))
                 } else {
-                    Ok((parameters.as_slice(), meaning))
+                    Ok((parameters.as_slice(), sorts.as_slice(), meaning))
                 }
             }
         }
     }
 
-    /// What a name stands for as a term of its own.
+    /// What a name stands for as a term of its own: a variable, or what a term stands for.
     pub(crate) fn plain(
         &self,
         alloc: Global,
         name: &[u8],
         at: Position,
-    ) -> Result<Meaning, ReadRefusal>
-        ensures says { Says (λ m. m) result (plain_use at (look_up self.now name.now)) }
-        ensures range { (w : Work) → IsEnvIn w self.now → IfOk result (λ m. IsMeaningIn w m) }
+    ) -> Result<Bound, ReadRefusal>
+        ensures says { Says (λ b. b) result (plain_bound at (look_up self.now name.now)) }
+        ensures range { (w : Work) → IsEnvIn w self.now → IfOk result (IsBoundIn w) }
     {
         match self.bound.find(name) {
-            Some(meaning) => copy_of(alloc, meaning),
+            Some(bound) => copy_of(alloc, bound),
             None => live_use(alloc, self.live.find(name), at),
         }
     }
 }
 
-/// The same meaning once more.
-fn copy_of(alloc: Global, meaning: &Meaning) -> Result<Meaning, ReadRefusal>
-    ensures says { Says (λ m. m) result (give meaning.now) }
-    ensures same { IfOk result (λ m. m ≡ meaning.now) }
+/// The same once more.
+fn copy_of(alloc: Global, bound: &Bound) -> Result<Bound, ReadRefusal>
+    ensures says { (p : PositionValue) → Says (λ b. b) result (plain_bound p (use_of (Some bound.now) None)) }
+    ensures same { IfOk result (λ b. b ≡ bound.now) }
 {
-    Ok(copy_of_meaning(alloc, meaning)?)
+    Ok(copy_of_bound(alloc, bound)?)
 }
 
 /// What a live name stands for as a term of its own.
-fn live_use(alloc: Global, found: Option<&Use>, at: Position) -> Result<Meaning, ReadRefusal>
-    ensures says { Says (λ m. m) result (plain_use at (option_map (λ u. shown_use u.now) found.entry)) }
-    ensures range { (w : Work) → IfSome found.entry (λ u. IsUseIn w (shown_use u.now)) → IfOk result (λ m. IsMeaningIn w m) }
+fn live_use(alloc: Global, found: Option<&Use>, at: Position) -> Result<Bound, ReadRefusal>
+    ensures says { Says (λ b. b) result (plain_bound at (option_map (λ u. shown_use u.now) found.entry)) }
+    ensures range { (w : Work) → IfSome found.entry (λ u. IsUseIn w (shown_use u.now)) → IfOk result (IsBoundIn w) }
 {
     match found {
         None => Err(refused(ReadKind::Unknown, at)),
-        Some(Use::Constant(v)) => Ok(Meaning::Int(form_of_variable(alloc, *v)?)),
-        Some(Use::Definition(parameters, meaning)) => {
+        Some(Use::Constant(v, sort)) => Ok(Bound::Variable(*v, *sort)),
+        Some(Use::Definition(parameters, _, meaning)) => {
             if parameters.is_empty() {
-                copy_of(alloc, meaning)
+                let copy = copy_of_meaning(alloc, meaning)?;
+                Ok(Bound::Term(copy))
             } else {
                 Err(refused(ReadKind::Sort, at))
             }

@@ -1,7 +1,9 @@
 //! Laws about terms: each holds for all values, and is cited by its contract.
 
-ghost use Rattle.std.specs.Prelude.{ℕ};
-ghost use Rattle.pt_formula.specs.Formulas.{IsFormula};
+ghost use Rattle.std.specs.Prelude.{ℕ, ℤ, ◌↔◌, List};
+ghost use Rattle.pt_formula.specs.Formulas.{IsFormula, tree_of};
+ghost use Rattle.pt_formula.specs.Truth.{Solutions};
+ghost use Rattle.pt_terms.specs.declared.meaning.Sort.{Sort};
 ghost use Rattle.pt_syntax.specs.Sizes.{size_within};
 ghost use Rattle.pt_syntax.specs.declared.sexpr.SExpr.{SExpr as SExprValue};
 ghost use Rattle.pt_terms.specs.Elaboration.{Work};
@@ -10,11 +12,13 @@ ghost use Rattle.pt_terms.specs.Gives.{Grows};
 ghost use Rattle.pt_terms.specs.Sound.{IsEnvIn};
 ghost use Rattle.pt_terms.specs.Free.{Nodes, IsWhole, AreTermsOver};
 ghost use Rattle.pt_terms.specs.Keeps.{TermsKeep, ConjunctionsKeep};
+ghost use Rattle.pt_terms.specs.Sorts.{AreSorted, AgreeBySort};
 ghost use Rattle.pt_terms.specs.Numbers.{AddsAtMost, looks};
 ghost use Rattle.pt_terms.specs.Terms.{term_within};
 
 use pt_formula::laws::{
     appended_nodes_change_no_earlier_one, trees_are_made_of_those_of_the_children,
+    truth_depends_on_oddness_alone,
 };
 use pt_syntax::laws::a_deeper_look_finds_no_less;
 
@@ -48,4 +52,12 @@ pub fn terms_keep_formulas_well_formed()
 {
     appended_nodes_change_no_earlier_one();
     trees_are_made_of_those_of_the_children();
+}
+
+/// Where each atom has terms of sort Int alone or is that of a variable of sort Bool, the solutions of a node depend on the oddness alone of
+/// variables of sort Bool.
+pub fn solutions_depend_on_oddness_alone()
+    ensures { (f : Nodes) (given : List Sort) → AreSorted f given → (i : ℕ) (y z : List ℤ) → AgreeBySort given (tree_of f i) y z → Solutions (tree_of f i) y ↔ Solutions (tree_of f i) z }
+{
+    truth_depends_on_oddness_alone();
 }

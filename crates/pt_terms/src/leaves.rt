@@ -1,8 +1,8 @@
 // Terms that are no lists, and the moduli of heads.
-use crate::arithmetic::form_of_number;
+use crate::arithmetic::{form_of_number, form_of_variable};
 use crate::elaborator::Elaborator;
 use crate::environment::Environment;
-use crate::meaning::Meaning;
+use crate::meaning::{Bound, Meaning, Sort};
 use crate::numerals::number_at;
 use crate::refusals::refused;
 use pt_grammar::exprs::{numeral, place, symbol};
@@ -13,9 +13,9 @@ use std::alloc::Global;
 impl Elaborator {
     ghost use Rattle.std.specs.Prelude.{◌<◌, ◌^◌, IfOk};
     ghost use Rattle.pt_terms.specs.Terms.{leaf_term, modulus, indexed_head};
-    ghost use Rattle.pt_terms.specs.Layers.{symbol_term};
+    ghost use Rattle.pt_terms.specs.Layers.{symbol_term, bound_term};
     ghost use Rattle.pt_terms.specs.Gives.{Gives, Grows};
-    ghost use Rattle.pt_terms.specs.Sound.{IsMeaningIn, IsEnvIn};
+    ghost use Rattle.pt_terms.specs.Sound.{IsMeaningIn, IsBoundIn, IsEnvIn};
 
     /// A term that is no list.
     pub(crate) fn leaf_term(
@@ -62,7 +62,35 @@ impl Elaborator {
             let n = self.truth(alloc, false, at)?;
             return Ok(Meaning::Bool(n));
         }
-        env.plain(alloc, name, at)
+        match env.plain(alloc, name, at) {
+            Ok(bound) => self.bound_term(alloc, at, bound),
+            Err(refusal) => Err(refusal),
+        }
+    }
+
+    /// What a name is bound to, as a term of its own: a variable of sort Bool makes a node.
+    fn bound_term(
+        &mut self,
+        alloc: Global,
+        at: Position,
+        bound: Bound,
+    ) -> Result<Meaning, ReadRefusal>
+        requires { IsBoundIn self.old bound }
+        ensures gives { Gives (λ m. m) result self.old self.new (bound_term at bound) }
+        ensures range { IfOk result (IsMeaningIn self.new) }
+        ensures grows { Grows self.old self.new }
+    {
+        match bound {
+            Bound::Variable(v, Sort::Int) => {
+                let form = form_of_variable(alloc, v)?;
+                Ok(Meaning::Int(form))
+            }
+            Bound::Variable(v, Sort::Bool) => {
+                let i = self.truth_atom(alloc, v, at)?;
+                Ok(Meaning::Bool(i))
+            }
+            Bound::Term(meaning) => Ok(meaning),
+        }
     }
 
     /// The modulus of a head `(_ divisible N)` at its place.

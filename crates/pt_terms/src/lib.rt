@@ -8,7 +8,7 @@ pub mod bindings;
 pub mod bytes;
 mod connectives;
 mod copying;
-mod definitions;
+pub mod definitions;
 pub mod elaborator;
 pub mod environment;
 #[cfg(test)]
@@ -23,6 +23,7 @@ mod reaching;
 pub mod refusals;
 mod relations;
 mod replacing;
+pub mod sorts;
 pub mod symbols;
 mod terms;
 #[cfg(test)]

@@ -1,11 +1,40 @@
+ghost use Rattle.std.specs.Prelude.{◌≡◌};
+ghost use Rattle.pt_terms.specs.Sorts.{same_sort, sort_of};
+
 use crate::bytes::Bytes;
 use pt_formula::Form;
+
+/// The sort of a variable or of a term. A variable of sort Bool is an integer like any other, and stands for true where it is odd.
+#[derive(Clone, Copy, Debug, PartialEq, Eq)]
+pub enum Sort {
+    Int,
+    Bool,
+}
+
+impl Sort {
+    /// Whether the other is the same sort.
+    pub fn is(self, other: Sort) -> bool
+        ensures { result ≡ same_sort self other }
+    {
+        match self {
+            Sort::Int => match other {
+                Sort::Int => true,
+                Sort::Bool => false,
+            },
+            Sort::Bool => match other {
+                Sort::Int => false,
+                Sort::Bool => true,
+            },
+        }
+    }
+}
 
 /// A declared constant.
 #[derive(Drop)]
 pub struct Constant {
     pub name: Bytes,
     pub variable: u32,
+    pub sort: Sort,
 }
 
 /// What a term stands for: a form of sort Int, or a node of sort Bool.
@@ -13,4 +42,23 @@ pub struct Constant {
 pub enum Meaning {
     Int(Form),
     Bool(u32),
+}
+
+impl Meaning {
+    /// Its sort.
+    pub fn sort(&self) -> Sort
+        ensures { result ≡ sort_of self.now }
+    {
+        match self {
+            Meaning::Int(_) => Sort::Int,
+            Meaning::Bool(_) => Sort::Bool,
+        }
+    }
+}
+
+/// What a name that is bound in a term stands for: a variable of a sort, or what another term stands for.
+#[derive(Drop)]
+pub enum Bound {
+    Variable(u32, Sort),
+    Term(Meaning),
 }

@@ -34,7 +34,8 @@ impl Elaborator {
     ghost use Rattle.pt_terms.specs.Theory.{atom, compared, compare, different, conjunction, neighbours, later_pairs};
     ghost use Rattle.pt_terms.specs.Chains.{with_next, next, run, close, heads};
     ghost use Rattle.pt_terms.specs.Gives.{Gives, Grows};
-    ghost use Rattle.pt_terms.specs.Sound.{IsFormBelow, AreTermsBelow};
+    ghost use Rattle.pt_terms.specs.Sorts.{AreIntegers};
+    ghost use Rattle.pt_terms.specs.Sound.{IsFormOver};
 
     /// The atom of the terms and the constant, or True or False without terms.
     pub(crate) fn relation_atom(
@@ -46,7 +47,7 @@ impl Elaborator {
         at: Position,
     ) -> Result<u32, ReadRefusal>
         requires terms { AreTerms terms.now }
-        requires below { AreTermsBelow self.old.given terms.now }
+        requires sorts { AreIntegers self.old.given terms.now }
         requires kind { IsModulus kind }
         ensures gives { Gives (λ i. i) result self.old self.new (atom at kind terms.now constant) }
         ensures range { IfOk result (λ i. i < length self.new.formula) }
@@ -69,7 +70,7 @@ impl Elaborator {
         relation: Relation,
         f: &Form,
     ) -> Result<u32, ReadRefusal>
-        requires { IsFormBelow self.old.given f.now }
+        requires { IsFormOver self.old.given f.now }
         ensures gives { Gives (λ i. i) result self.old self.new (compared at relation f.now) }
         ensures range { IfOk result (λ i. i < length self.new.formula) }
         ensures grows { Grows self.old self.new }
@@ -96,8 +97,8 @@ impl Elaborator {
         a: &Form,
         b: &Form,
     ) -> Result<u32, ReadRefusal>
-        requires a { IsFormBelow self.old.given a.now }
-        requires b { IsFormBelow self.old.given b.now }
+        requires a { IsFormOver self.old.given a.now }
+        requires b { IsFormOver self.old.given b.now }
         ensures gives { Gives (λ i. i) result self.old self.new (compare at relation (a.now, b.now)) }
         ensures range { IfOk result (λ i. i < length self.new.formula) }
         ensures grows { Grows self.old self.new }
@@ -119,8 +120,8 @@ impl Elaborator {
         a: &Form,
         b: &Form,
     ) -> Result<u32, ReadRefusal>
-        requires a { IsFormBelow self.old.given a.now }
-        requires b { IsFormBelow self.old.given b.now }
+        requires a { IsFormOver self.old.given a.now }
+        requires b { IsFormOver self.old.given b.now }
         ensures gives { Gives (λ i. i) result self.old self.new (different at (a.now, b.now)) }
         ensures range { IfOk result (λ i. i < length self.new.formula) }
         ensures grows { Grows self.old self.new }
@@ -178,8 +179,8 @@ impl Elaborator {
         b: &Form,
     ) -> Result<u32, ReadRefusal>
         requires so_far { IfSome so_far (λ i. i < length self.old.formula) }
-        requires a { IsFormBelow self.old.given a.now }
-        requires b { IsFormBelow self.old.given b.now }
+        requires a { IsFormOver self.old.given a.now }
+        requires b { IsFormOver self.old.given b.now }
         ensures gives { Gives (λ i. i) result self.old self.new (next (compare at relation) at so_far (a.now, b.now)) }
         ensures range { IfOk result (λ i. i < length self.new.formula) }
         ensures grows { Grows self.old self.new }
@@ -218,8 +219,8 @@ impl Elaborator {
         b: &Form,
     ) -> Result<u32, ReadRefusal>
         requires so_far { IfSome so_far (λ i. i < length self.old.formula) }
-        requires a { IsFormBelow self.old.given a.now }
-        requires b { IsFormBelow self.old.given b.now }
+        requires a { IsFormOver self.old.given a.now }
+        requires b { IsFormOver self.old.given b.now }
         ensures gives { Gives (λ i. i) result self.old self.new (next (different at) at so_far (a.now, b.now)) }
         ensures range { IfOk result (λ i. i < length self.new.formula) }
         ensures grows { Grows self.old self.new }
@@ -258,8 +259,8 @@ impl Elaborator {
         first: &Form,
         rest: &[&Form],
     ) -> Result<u32, ReadRefusal>
-        requires first { IsFormBelow self.old.given first.now }
-        requires rest { All (λ f. IsFormBelow self.old.given f.now) rest.now }
+        requires first { IsFormOver self.old.given first.now }
+        requires rest { All (λ f. IsFormOver self.old.given f.now) rest.now }
         ensures gives { Gives (λ i. i) result self.old self.new (conjunction (compare at relation) at (neighbours first.now (map (λ f. f.now) rest.now))) }
         ensures range { IfOk result (λ i. i < length self.new.formula) }
         ensures grows { Grows self.old self.new }
@@ -314,8 +315,8 @@ impl Elaborator {
         rest: &[&Form],
     ) -> Result<Option<u32>, ReadRefusal>
         requires so_far { IfSome so_far (λ i. i < length self.old.formula) }
-        requires first { IsFormBelow self.old.given first.now }
-        requires rest { All (λ f. IsFormBelow self.old.given f.now) rest.now }
+        requires first { IsFormOver self.old.given first.now }
+        requires rest { All (λ f. IsFormOver self.old.given f.now) rest.now }
         ensures gives { Gives (λ i. i) result self.old self.new (run (different at) at so_far (map (λ g. (first.now, g)) (map (λ f. f.now) rest.now))) }
         ensures range { IfOk result (λ r. IfSome r (λ i. i < length self.new.formula)) }
         ensures grows { Grows self.old self.new }
@@ -341,7 +342,7 @@ impl Elaborator {
         place: usize,
     ) -> Result<Option<u32>, ReadRefusal>
         requires so_far { IfSome so_far (λ i. i < length self.old.formula) }
-        requires forms { All (λ f. IsFormBelow self.old.given f.now) forms.now }
+        requires forms { All (λ f. IsFormOver self.old.given f.now) forms.now }
         requires place { place < length forms.now }
         ensures gives { Gives (λ i. i) result self.old self.new (run (different at) at so_far (heads (map (λ f. f.now) (drop place forms.now)))) }
         ensures range { IfOk result (λ r. IfSome r (λ i. i < length self.new.formula)) }
@@ -360,7 +361,7 @@ impl Elaborator {
         at: Position,
         forms: &[&Form],
     ) -> Result<u32, ReadRefusal>
-        requires { All (λ f. IsFormBelow self.old.given f.now) forms.now }
+        requires { All (λ f. IsFormOver self.old.given f.now) forms.now }
         ensures gives { Gives (λ i. i) result self.old self.new (conjunction (different at) at (later_pairs (map (λ f. f.now) forms.now))) }
         ensures range { IfOk result (λ i. i < length self.new.formula) }
         ensures grows { Grows self.old self.new }

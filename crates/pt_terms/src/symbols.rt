@@ -3,18 +3,19 @@ ghost use Rattle.std.specs.Prelude.{◌≡◌, ◌≤◌, [], ◌∷◌, ◌++�
 ghost use Rattle.std.specs.List.{AllByRecursion};
 ghost use Rattle.pt_terms.specs.Symbols.{shown_use, constant_count};
 
-use crate::meaning::Meaning;
+use crate::meaning::{Meaning, Sort};
 use crate::parameters::Parameters;
+use crate::sorts::Sorts;
 use indexmap::IndexMap;
 use pt_digits::NoMemory;
 use std::alloc::Global;
 use std::marker::Model;
 
-/// What a live name stands for: a constant's variable, or the parameters and the meaning of a definition.
+/// What a live name stands for: a constant's variable and its sort, or the parameters of a definition, their sorts and its meaning.
 #[derive(Drop)]
 pub enum Use {
-    Constant(u32),
-    Definition(Parameters, Meaning),
+    Constant(u32, Sort),
+    Definition(Parameters, Sorts, Meaning),
 }
 
 /// What a live name stands for, and the level that made it.
@@ -30,7 +31,7 @@ impl Live {
         ensures { result ≡ constant_count (shown_use self.now.stands_for) }
     {
         match self.stands_for {
-            Use::Constant(_) => 1,
+            Use::Constant(..) => 1,
             Use::Definition(..) => 0,
         }
     }

@@ -4,7 +4,7 @@ use crate::binders::{Named, bind_variables};
 use crate::bindings::Bindings;
 use crate::elaborator::Elaborator;
 use crate::environment::Environment;
-use crate::meaning::Meaning;
+use crate::meaning::{Bound, Meaning};
 use crate::refusals::refused;
 use pt_grammar::exprs::{items, items_in, place};
 use pt_grammar::forms::{fault_of_annotation, fault_of_let, fault_of_quantifier};
@@ -16,7 +16,8 @@ impl Elaborator {
     ghost use Rattle.std.specs.Prelude.{◌≡◌, ◌<◌, ◌≤◌, ◌-◌, ◌^◌, [], length, map, reverse, true, false, IfOk, IfErr, OnOk, All};
     ghost use Rattle.std.specs.List.{AllByRecursion};
     ghost use Rattle.pt_grammar.specs.Words.{Name};
-    ghost use Rattle.pt_terms.specs.declared.meaning.Meaning.{Meaning as MeaningValue};
+    ghost use Rattle.pt_terms.specs.declared.meaning.Bound.{Bound as BoundValue};
+    ghost use Rattle.pt_terms.specs.declared.meaning.Bound.TheVariants.{Term};
     ghost use Rattle.pt_terms.specs.Elaboration.{each};
     ghost use Rattle.pt_terms.specs.Names as names;
     ghost use Rattle.pt_grammar.specs.declared.words.Head.TheVariants as word;
@@ -33,7 +34,8 @@ impl Elaborator {
     ghost use Rattle.pt_syntax.specs.declared.sexpr.SExpr.TheOpen as layer;
     ghost use Rattle.pt_terms.specs.Environment.{inside};
     ghost use Rattle.pt_terms.specs.Gives.{Gives, Grows};
-    ghost use Rattle.pt_terms.specs.Sound.{IsMeaningIn, IsEnvIn};
+    ghost use Rattle.pt_terms.specs.Sound.{IsMeaningIn, IsBoundIn, IsEnvIn};
+    ghost use Rattle.pt_terms.specs.Sorts.{HasSort};
 
     /// A term with lists less than `depth` deep.
     #[cycle(term)]
@@ -248,7 +250,7 @@ impl Elaborator {
         names: &Bindings,
     ) -> Result<usize, ReadRefusal>
         requires env { IsEnvIn self.now env.old }
-        requires names { AllByRecursion (λ (b : Name × MeaningValue). IsMeaningIn self.now b.1) names.now }
+        requires names { AllByRecursion (λ (b : Name × BoundValue). IsBoundIn self.now b.1) names.now }
         ensures bound { OnOk result (env.new ≡ bind names.now env.old) }
         ensures outer { IfOk result (λ n. n ≡ length env.old.bound) }
         ensures within { IfOk result (λ n. n ≤ length env.new.bound) }
@@ -269,8 +271,8 @@ impl Elaborator {
         variables: &[Named<'_>],
     ) -> Result<usize, ReadRefusal>
         requires env { IsEnvIn self.now env.old }
-        requires variables { All (λ x. x.1 < self.now.given) variables.now }
-        ensures bound { OnOk result (env.new ≡ bind (map as_bound (reverse (map (λ x. (x.0.now, x.1)) variables.now))) env.old) }
+        requires variables { All (λ x. HasSort self.now.given x.1 x.2) variables.now }
+        ensures bound { OnOk result (env.new ≡ bind (map as_bound (reverse (map (λ x. (x.0.now, x.1, x.2)) variables.now))) env.old) }
         ensures outer { IfOk result (λ n. n ≡ length env.old.bound) }
         ensures within { IfOk result (λ n. n ≤ length env.new.bound) }
         ensures range { OnOk result (IsEnvIn self.now env.new) }
@@ -343,14 +345,14 @@ impl Elaborator {
     ) -> Result<Bindings, ReadRefusal>
         requires env { IsEnvIn self.old env.old }
         ensures gives { Gives (λ b. b) result self.old self.new (bindings (term_within depth env.old) [] es.now) }
-        ensures range { IfOk result (AllByRecursion (λ (b : Name × MeaningValue). IsMeaningIn self.new b.1)) }
+        ensures range { IfOk result (AllByRecursion (λ (b : Name × BoundValue). IsBoundIn self.new b.1)) }
         ensures grows { Grows self.old self.new }
         ensures env { OnOk result (env.new ≡ env.old) }
     {
         let mut found = Bindings::new(alloc);
         for e in es {
             let (name, m) = self.binding(alloc, depth, env, &found, e)?;
-            found.push(alloc, name, m)?;
+            found.push(alloc, name, Bound::Term(m))?;
         }
         Ok(found)
     }
@@ -367,7 +369,7 @@ impl Elaborator {
         e: &'e SExpr,
     ) -> Result<(&'e [u8], Meaning), ReadRefusal>
         requires env { IsEnvIn self.old env.old }
-        ensures gives { Gives (λ b. (b.0.now, b.1)) result self.old self.new (binding (term_within depth env.old) (map (λ b. b.0) found.now) e.now) }
+        ensures gives { Gives (λ b. (b.0.now, Term b.1)) result self.old self.new (binding (term_within depth env.old) (map (λ b. b.0) found.now) e.now) }
         ensures range { IfOk result (λ b. IsMeaningIn self.new b.1) }
         ensures grows { Grows self.old self.new }
         ensures env { OnOk result (env.new ≡ env.old) }
@@ -390,7 +392,7 @@ impl Elaborator {
         e: &SExpr,
     ) -> Result<(&'e [u8], Meaning), ReadRefusal>
         requires env { IsEnvIn self.old env.old }
-        ensures gives { Gives (λ b. (b.0.now, b.1)) result self.old self.new (pair (term_within depth env.old) (map (λ b. b.0) found.now) symbol.now e.now) }
+        ensures gives { Gives (λ b. (b.0.now, Term b.1)) result self.old self.new (pair (term_within depth env.old) (map (λ b. b.0) found.now) symbol.now e.now) }
         ensures range { IfOk result (λ b. IsMeaningIn self.new b.1) }
         ensures grows { Grows self.old self.new }
         ensures env { OnOk result (env.new ≡ env.old) }
@@ -474,8 +476,8 @@ impl Elaborator {
         ensures grows { Grows self.old self.new }
         ensures env { OnOk result (env.new ≡ env.old) }
     {
-        let (parameters, meaning) = env.head(name, place)?;
+        let (parameters, sorts, meaning) = env.head(name, place)?;
         let arguments = self.arguments(alloc, depth, env, rest)?;
-        self.call(alloc, at, parameters, meaning, arguments.as_slice())
+        self.call(alloc, at, parameters, sorts, meaning, arguments.as_slice())
     }
 }

@@ -2,7 +2,7 @@
 use crate::arithmetic::{copy_of_meaning, form_of_variable};
 use crate::bindings::Bindings;
 use crate::elaborator::Elaborator;
-use crate::meaning::Meaning;
+use crate::meaning::{Bound, Meaning, Sort};
 use crate::numerals::number_at;
 use crate::refusals::refused;
 use crate::symbols::{Symbols, Use};
@@ -15,9 +15,9 @@ fn live_names(rt: HostRuntime) -> Result<(), Fail> {
     let mut symbols = Symbols::new(rt.alloc());
     assert!(&rt; symbols.find(b"x").is_none());
     let name = b"x".to_vec(rt.alloc())?;
-    symbols.push(name, Use::Constant(7), 2)?;
+    symbols.push(name, Use::Constant(7, Sort::Bool), 2)?;
     assert_eq!(&rt; symbols.len(), 1);
-    assert!(&rt; matches!(symbols.find(b"x"), Some(Use::Constant(7))));
+    assert!(&rt; matches!(symbols.find(b"x"), Some(Use::Constant(7, Sort::Bool))));
     assert!(&rt; symbols.find(b"y").is_none());
     symbols.truncate(2);
     assert_eq!(&rt; symbols.len(), 1);
@@ -31,13 +31,16 @@ fn live_names(rt: HostRuntime) -> Result<(), Fail> {
 #[test]
 fn bound_names(rt: HostRuntime) -> Result<(), Fail> {
     let mut bound = Bindings::new(rt.alloc());
-    bound.push(rt.alloc(), b"x", Meaning::Bool(3))?;
+    bound.push(rt.alloc(), b"x", Bound::Variable(3, Sort::Bool))?;
     let form = form_of_variable(rt.alloc(), 5)?;
     let meaning = copy_of_meaning(rt.alloc(), &Meaning::Int(form))?;
-    bound.push(rt.alloc(), b"x", meaning)?;
+    bound.push(rt.alloc(), b"x", Bound::Term(meaning))?;
     assert_eq!(&rt; bound.len(), 2);
     match bound.find(b"x") {
-        Some(Meaning::Int(f)) => assert_eq!(&rt; f.terms.as_slice(), [(5u32, 1i64)].as_slice()),
+        Some(Bound::Term(Meaning::Int(f))) => assert_eq!(&rt;
+            f.terms.as_slice(),
+            [(5u32, 1i64)].as_slice()
+        ),
         _ => panic!(&rt; "the innermost name is hidden"),
     }
     assert!(&rt; bound.find(b"y").is_none());
@@ -74,9 +77,11 @@ fn nodes_and_variable_numbers(rt: HostRuntime) -> Result<(), Fail> {
     let at = Position { line: 1, column: 1 };
     let mut work = Elaborator::new(rt.alloc())?;
     assert_eq!(&rt; work.formula().len(), 1);
-    assert_eq!(&rt; work.fresh(), Ok(0));
-    assert_eq!(&rt; work.fresh(), Ok(1));
+    assert_eq!(&rt; work.fresh(Sort::Int), Ok(0));
+    assert_eq!(&rt; work.fresh(Sort::Bool), Ok(1));
     assert_eq!(&rt; work.given(), 2);
+    assert_eq!(&rt; work.sort(0), Sort::Int);
+    assert_eq!(&rt; work.sort(1), Sort::Bool);
     match work.binary(rt.alloc(), Op::And, 0, 0, at) {
         Ok(node) => assert_eq!(&rt; node, 1),
         Err(refusal) => assert_eq!(&rt; refusal, no_memory()),

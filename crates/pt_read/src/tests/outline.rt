@@ -1,7 +1,7 @@
 //! Texts and what is read of them, written in one line.
 ghost use Rattle.pt_read.specs.Fits.{FitsKind};
 
-use crate::{Command, CommandKind, Meaning, Predicate, ReadRefusal, Reader, Scope};
+use crate::{Command, CommandKind, Meaning, Predicate, ReadRefusal, Reader, Scope, Sort};
 use pt_formula::{Formula, Kind, Node, Position};
 use std::alloc::{AllocError, Global};
 use std::process::Abort;
@@ -57,6 +57,14 @@ fn write_predicate(
     write_word(out, b"|")?;
     write_number(alloc, out, u64::from(predicate.body))?;
     write_word(out, b"]")
+}
+
+/// Integers are the rule: of the sorts only `Bool` is named.
+fn write_sort(out: &mut Vec<u8>, sort: Sort) -> Result<(), AllocError> {
+    match sort {
+        Sort::Int => Ok(()),
+        Sort::Bool => write_word(out, b"Bool"),
+    }
 }
 
 fn write_meaning(alloc: Global, out: &mut Vec<u8>, meaning: &Meaning) -> Result<(), AllocError> {
@@ -130,16 +138,23 @@ fn write_kind(alloc: Global, out: &mut Vec<u8>, kind: &CommandKind) -> Result<()
                 Some(false) => write_word(out, b"false"),
             }
         }
-        CommandKind::Declare { name, variable } => {
+        CommandKind::Declare {
+            name,
+            variable,
+            sort,
+        } => {
             write_word(out, b"declare")?;
             write_word(out, name.as_slice())?;
-            write_number(alloc, out, u64::from(*variable))
+            write_number(alloc, out, u64::from(*variable))?;
+            write_sort(out, *sort)
         }
         CommandKind::Define { definition } => {
             write_word(out, b"define")?;
             write_word(out, definition.name.as_slice())?;
-            for parameter in definition.parameters.as_slice() {
+            let sorts = definition.sorts.as_slice();
+            for (parameter, sort) in definition.parameters.as_slice().iter().zip(sorts) {
                 write_number(alloc, out, u64::from(*parameter))?;
+                write_sort(out, *sort)?;
             }
             write_meaning(alloc, out, &definition.meaning)
         }
@@ -154,6 +169,7 @@ fn write_kind(alloc: Global, out: &mut Vec<u8>, kind: &CommandKind) -> Result<()
             for constant in constants.as_slice() {
                 write_word(out, constant.name.as_slice())?;
                 write_number(alloc, out, u64::from(constant.variable))?;
+                write_sort(out, constant.sort)?;
             }
             Ok(())
         }

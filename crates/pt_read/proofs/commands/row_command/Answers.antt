@@ -1,4 +1,3 @@
-use Rattle.std.proofs.Common.{sym}
 use Rattle.pt_read.proofs.Verbs.{enough}
 use Rattle.pt_read.proofs.commands.row_command.Goals as goal
 

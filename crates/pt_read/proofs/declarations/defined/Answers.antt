@@ -1,6 +1,6 @@
 use Rattle.std.proofs.Common.{subst, sym, ◌∙◌}
 use Rattle.pt_terms.specs.Gives.{Fails}
-use Rattle.pt_read.specs.Commands.{result_sort}
+use Rattle.pt_terms.specs.Terms.{named_sort}
 use Rattle.pt_read.specs.Defining.{definition_of, defined_by}
 use Rattle.pt_read.proofs.Steps.{fails_first, given_then}
 use Rattle.pt_read.proofs.ItemLemmas.{state_more}
@@ -11,13 +11,13 @@ pub definition_of-requires-clause-context : goal.definition_of-requires-clause-c
 definition_of-requires-clause-context c = state_more c.names_stay_in_range.ensures c.args.work.now c.bind_parameters.new.work c.args.context.now c.bind_parameters.ensures.grows c.requires
 
 pub returns-in-Err-clause-gives : goal.returns-in-Err-clause-gives
-returns-in-Err-clause-gives c = subst (Fails c.in-Err.refusal) (sym (after_parameters c.args.context.now c.args.name.now c.args.parameters.now c.args.sort.now c.args.body.now c.args.work.now c.bind_parameters.new.work c.in_ok-x.x.now (c.bind_parameters.new.bound, c.bind_parameters.new.numbers.items) (c.in_ok-x.ensures c.args.work.now)
-    (from_nothing c.new-bound.result c.new-numbers.result.items c.items_in.result.now _ c.args.work.now _ c.new-bound.ensures c.new-numbers.ensures.items c.items_in.ensures c.in_ok-bind_parameters.ensures.gives)))
-    (fails_first (result_sort c.args.sort.now) (definition_of c.in_ok-x.x.now c.args.context.now c.args.body.now (c.bind_parameters.new.bound, c.bind_parameters.new.numbers.items)) c.bind_parameters.new.work c.in-Err.refusal (c.in-Err.ensures c.bind_parameters.new.work))
+returns-in-Err-clause-gives c = subst (Fails c.in-Err.refusal) (sym (after_parameters c.args.context.now c.args.name.now c.args.parameters.now c.args.sort.now c.args.body.now c.args.work.now c.bind_parameters.new.work c.in_ok-x.x.now (c.bind_parameters.new.bound, c.bind_parameters.new.numbers.items, c.bind_parameters.new.sorts.items) (c.in_ok-x.ensures c.args.work.now)
+    (from_nothing c.new-bound.result c.new-numbers.result.items c.new-sorts.result.items c.items_in-es.result.now _ c.args.work.now _ c.new-bound.ensures c.new-numbers.ensures.items c.new-sorts.ensures.items c.items_in-es.ensures c.in_ok-bind_parameters.ensures.gives)))
+    (fails_first (named_sort c.args.sort.now) (definition_of c.in_ok-x.x.now c.args.context.now c.args.body.now (c.bind_parameters.new.bound, c.bind_parameters.new.numbers.items, c.bind_parameters.new.sorts.items)) c.bind_parameters.new.work c.in-Err.refusal (c.in-Err.ensures c.bind_parameters.new.work))
 
 pub returns-in-Ok-clause-gives : goal.returns-in-Ok-clause-gives
 returns-in-Ok-clause-gives c = gives_from c.definition_of.result c.args.work.now c.bind_parameters.new.work c.definition_of.new.work (defined_by c.args.context.now c.args.name.now c.args.parameters.now c.args.sort.now c.args.body.now) _
-    (after_parameters c.args.context.now c.args.name.now c.args.parameters.now c.args.sort.now c.args.body.now c.args.work.now c.bind_parameters.new.work c.in_ok-x.x.now (c.bind_parameters.new.bound, c.bind_parameters.new.numbers.items) (c.in_ok-x.ensures c.args.work.now)
-    (from_nothing c.new-bound.result c.new-numbers.result.items c.items_in.result.now _ c.args.work.now _ c.new-bound.ensures c.new-numbers.ensures.items c.items_in.ensures c.in_ok-bind_parameters.ensures.gives)
-    ∙ given_then (result_sort c.args.sort.now) (definition_of c.in_ok-x.x.now c.args.context.now c.args.body.now (c.bind_parameters.new.bound, c.bind_parameters.new.numbers.items)) c.bind_parameters.new.work c.bind_parameters.new.work c.in-Ok.is_int (c.in-Ok.ensures c.bind_parameters.new.work))
+    (after_parameters c.args.context.now c.args.name.now c.args.parameters.now c.args.sort.now c.args.body.now c.args.work.now c.bind_parameters.new.work c.in_ok-x.x.now (c.bind_parameters.new.bound, c.bind_parameters.new.numbers.items, c.bind_parameters.new.sorts.items) (c.in_ok-x.ensures c.args.work.now)
+    (from_nothing c.new-bound.result c.new-numbers.result.items c.new-sorts.result.items c.items_in-es.result.now _ c.args.work.now _ c.new-bound.ensures c.new-numbers.ensures.items c.new-sorts.ensures.items c.items_in-es.ensures c.in_ok-bind_parameters.ensures.gives)
+    ∙ given_then (named_sort c.args.sort.now) (definition_of c.in_ok-x.x.now c.args.context.now c.args.body.now (c.bind_parameters.new.bound, c.bind_parameters.new.numbers.items, c.bind_parameters.new.sorts.items)) c.bind_parameters.new.work c.bind_parameters.new.work c.in-Ok.sort (c.in-Ok.ensures c.bind_parameters.new.work))
     c.definition_of.ensures.gives

@@ -1,4 +1,4 @@
-use Rattle.std.proofs.Common.{◌≡◌, ◌+◌, List, [], ◌∷◌, ◌++◌, drop, subst, sym, ◌∙◌}
+use Rattle.std.proofs.Common.{◌≡◌, ◌+◌, List, [], ◌∷◌, ◌++◌, drop, subst, sym}
 use Rattle.pt_terms.specs.declared.meaning.Constant.{Constant}
 use Rattle.pt_terms.specs.Elaboration.{Work, each, give, ◌>>=◌}
 use Rattle.pt_grammar.specs.Exprs.{symbol_of, items_of, items_or_none}

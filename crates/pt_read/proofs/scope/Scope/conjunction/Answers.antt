@@ -1,4 +1,4 @@
-use Rattle.std.proofs.Common.{◌≡◌, ◌-◌, ◌<◌, suc, length, List, [], ◌∷◌, Some, slice_get, map, ap, sym, ◌∙◌, arith}
+use Rattle.std.proofs.Common.{◌≡◌, ◌-◌, suc, length, List, [], ◌∷◌, Some, slice_get, map, ap, sym, ◌∙◌, arith}
 use Rattle.pt_read.specs.declared.scope.Assertion.{Assertion}
 use Rattle.pt_read.specs.Scope.{last_conjunction}
 use Rattle.pt_formula.specs.Formulas.{IsFormula}

@@ -19,14 +19,15 @@ with-symbols c ss constants sound same = record {
 pub invariant_of-self : goal.invariant_of-self
 invariant_of-self c =
     let d : Definition = c.args.definition.now in
-    let new : Symbol = record { name = d.name; stands_for = Defined d.parameters d.meaning; level = c.self.inside.depth } in
+    let new : Symbol = record { name = d.name; stands_for = Defined d.parameters d.sorts d.meaning; level = c.self.inside.depth } in
     let named : c.in_ok-key.key.items ≡ d.name = c.in_ok-key.ensures.items ∙ c.as_slice.ensures in
     let listed : c.in_ok-parameters.parameters ≡ d.parameters = c.in_ok-parameters.ensures ∙ c.as_slice-2.ensures in
+    let sorted : c.in_ok-sorts.sorts ≡ d.sorts = c.in_ok-sorts.ensures ∙ c.as_slice-3.ensures in
     let fits : IsNewDefinition (shown c.self.inside) d = rw c.self.view_is c.requires in
     elim (by-result c.push.result _ _ c.push.ensures.ok c.push.ensures.err) [
       | inl added ↦ with-symbols c (c.self.inside.symbols ++ new ∷ [])
           (c.self.invariant.constants ∙ sym (constants-append c.self.inside.symbols new ∙ append-nil (constants_in c.self.inside.symbols)))
           (sound-after (shown c.self.inside) (kind.Define d) fits c.self.invariant.sound)
-          (added ∙ (cc (named, listed, c.in_ok-meaning.ensures)))
+          (added ∙ (cc (named, listed, sorted, c.in_ok-meaning.ensures)))
       | inr kept ↦ with-symbols c c.self.inside.symbols c.self.invariant.constants c.self.invariant.sound kept
     ]

@@ -20,7 +20,7 @@ invariant_of-self c = record {
   constants = c.self.invariant.constants;
   sound = sound-grown (shown c.self.inside) c.elaborate-command.new.work
       (c.terms_are_over_the_names_that_they_see.ensures.whole c.elaborate-command.new.work.formula (after c))
-      c.elaborate-command.ensures.grows.nodes c.elaborate-command.ensures.grows.given c.self.invariant.sound;
+      c.elaborate-command.ensures.grows.nodes c.elaborate-command.ensures.grows.sorts c.self.invariant.sound;
 }
 
 pub returns-clause-elaborated : goal.returns-clause-elaborated
@@ -32,4 +32,4 @@ returns-clause-elaborated c =
     (c.elaborate-command.ensures.gives (shown c.self.inside) stands) c.elaborate-command.ensures.range c.elaborate-command.ensures.grows)
 
 pub returns-clause-adds : goal.returns-clause-adds
-returns-clause-adds c = rw (← c.self.view_is) (record { nodes = c.elaborate-command.ensures.grows.nodes; given = c.elaborate-command.ensures.grows.given; depth = refl; symbols = refl; assertions = refl })
+returns-clause-adds c = rw (← c.self.view_is) (record { nodes = c.elaborate-command.ensures.grows.nodes; sorts = c.elaborate-command.ensures.grows.sorts; given = c.elaborate-command.ensures.grows.given; depth = refl; symbols = refl; assertions = refl })

@@ -35,8 +35,8 @@ returns-in-Some-index c =
     let got = slice_get-at c.self.inside.stack.items c.in-Some-index.place c.index-in-Some-index.result.now (omega arith) c.index-in-Some-index.ensures in
     let found = find_newest (names_of c.self.inside) c.in-Some.number c.args.name.now (reverse c.self.inside.stack.items) c.in-Some-index.place (linked c.self.inside c.self.invariant) (same c.self.inside c.in-Some.number c.args.name.now c.self.invariant lt named) at in
     sym (ap (λ bs. find_bound bs c.args.name.now) (sym c.self.view_is) ∙ found
-    ∙ ap (λ xs. option_map (λ b. b.meaning) (slice_get xs c.in-Some-index.place)) (reverse-reverse c.self.inside.stack.items)
-    ∙ ap (option_map (λ b. b.meaning)) got)
+    ∙ ap (λ xs. option_map (λ b. b.stands_for) (slice_get xs c.in-Some-index.place)) (reverse-reverse c.self.inside.stack.items)
+    ∙ ap (option_map (λ b. b.stands_for)) got)
 
 pub returns-in-None-index : goal.returns-in-None-index
 returns-in-None-index c =

@@ -31,3 +31,15 @@ invariant_of-self-in-Some-2 c =
       linked = all.2;
       named = popped_named c.pop.new.self.items c.in-Some.binding (length c.self.inside.names.keys) (subst (λ xs. All (λ (b : Binding). b.name < length c.self.inside.names.keys) xs) c.in-Some.ensures.items c.self.invariant.named);
     }
+
+pub invariant_of-self-in-Some-3 : goal.invariant_of-self-in-Some-3
+invariant_of-self-in-Some-3 c =
+    let all = links c.self.inside c.pop.new.self.items c.in-Some.binding c.self.invariant c.in-Some.ensures.items in
+    let lt : c.in-Some.binding.name < length c.self.inside.newest.items = omega (arith, c.self.invariant.count, all.0) in
+    record {
+      distinct = c.self.invariant.distinct;
+      count = rw (length-set c.self.inside.newest.items c.in-Some.binding.name c.in-Some.binding.hidden) c.self.invariant.count;
+      newest = λ n. popped_newest c.self.inside.newest.items c.pop.new.self.items c.in-Some.binding n lt all.1 (λ m. c.self.invariant.newest m ∙ ap (λ xs. newest_place m (reverse xs)) c.in-Some.ensures.items);
+      linked = all.2;
+      named = popped_named c.pop.new.self.items c.in-Some.binding (length c.self.inside.names.keys) (subst (λ xs. All (λ (b : Binding). b.name < length c.self.inside.names.keys) xs) c.in-Some.ensures.items c.self.invariant.named);
+    }

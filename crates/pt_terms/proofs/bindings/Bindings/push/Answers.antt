@@ -28,7 +28,7 @@ invariant_of-self-in_err-push c =
     }
 
 abbrev binding : (c : goal.After-self-1) → Binding
-binding c = record { name = c.in_ok-number.number; meaning = c.args.meaning; hidden = c.index-hidden.result.now }
+binding c = record { name = c.in_ok-number.number; stands_for = c.args.stands_for; hidden = c.index-hidden.result.now }
 
 pub invariant_of-self-2 : goal.invariant_of-self-2
 invariant_of-self-2 c =
@@ -49,8 +49,8 @@ returns c =
     let names = map (λ k. k.items) c.number_of.new.names.keys in
     ap (λ xs. map (shown_binding (map (λ k. k.items) c.number_of.new.names.keys)) (reverse xs)) c.in_ok-push.ensures.items
     ∙ ap (map (shown_binding (map (λ k. k.items) c.number_of.new.names.keys))) (reverse-append c.self.inside.stack.items (binding c ∷ []))
-    ∙ ap (λ n. (n, c.args.meaning) ∷ map (shown_binding (map (λ k. k.items) c.number_of.new.names.keys)) (reverse c.self.inside.stack.items)) c.in_ok-number.ensures.name
-    ∙ ap (λ bs. (c.args.name.now, c.args.meaning) ∷ bs)
+    ∙ ap (λ n. (n, c.args.stands_for) ∷ map (shown_binding (map (λ k. k.items) c.number_of.new.names.keys)) (reverse c.self.inside.stack.items)) c.in_ok-number.ensures.name
+    ∙ ap (λ bs. (c.args.name.now, c.args.stands_for) ∷ bs)
     (ap (λ ns. map (shown_binding ns) (reverse c.self.inside.stack.items)) c.in_ok-number.ensures.names.1
     ∙ shown_more (names_of c.self.inside) c.in_ok-number.ensures.names.0 (reverse c.self.inside.stack.items) (rw (length-map c.self.inside.names.keys (λ k. k.items)) c.self.invariant.linked)
     ∙ c.self.view_is)

@@ -1,12 +1,12 @@
 use Rattle.std.proofs.Common.{◌+◌, ◌*◌, ◌≡◌, ◌++◌, [], All, drop}
 use Rattle.std.specs.List.{AllByRecursion}
 use Rattle.pt_grammar.specs.Words.{Name}
-use Rattle.pt_terms.specs.declared.meaning.Meaning.{Meaning}
+use Rattle.pt_terms.specs.declared.meaning.Bound.{Bound}
 use Rattle.pt_terms.specs.Elaboration.{each, give, ◌>>=◌}
 use Rattle.pt_terms.specs.Theory.{Argument}
 use Rattle.pt_terms.specs.Terms.{term_within, argument, bindings}
 use Rattle.pt_terms.specs.Gives.{Grows}
-use Rattle.pt_terms.specs.Sound.{IsMeaningIn, IsEnvIn}
+use Rattle.pt_terms.specs.Sound.{IsMeaningIn, IsBoundIn, IsEnvIn}
 use Rattle.pt_terms.proofs.elaborator.Elaborator.+term.Given as goal
 
 -- what is found so far, in front of what the rest gives, is what all give
@@ -23,7 +23,7 @@ invariant-arguments-loop-e l = record {
 abbrev pub invariant-bindings-loop-e : goal.invariant-bindings-loop-e
 invariant-bindings-loop-e l = record {
   told : bindings (term_within l.fn.depth l.fn.env) l.found (drop l.e-index l.es) l.self ≡ bindings (term_within l.fn.depth l.fn.env) [] l.fn.es l.fn.self;
-  range : AllByRecursion (λ (b : Name × Meaning). IsMeaningIn l.self b.1) l.found;
+  range : AllByRecursion (λ (b : Name × Bound). IsBoundIn l.self b.1) l.found;
   grows : Grows l.fn.self l.self;
   same : l.env ≡ l.fn.env;
   env : IsEnvIn l.self l.env;

@@ -1,7 +1,7 @@
 use Rattle.std.proofs.Common.{map}
 use Rattle.pt_formula.specs.declared.form.Form.{Form}
 use Rattle.pt_terms.specs.Theory.{compare, neighbours}
-use Rattle.pt_terms.specs.Sound.{IsFormBelow}
+use Rattle.pt_terms.specs.Sound.{IsFormOver}
 use Rattle.pt_terms.proofs.Pairs.{neighbour_fails, neighbour_goes}
 use Rattle.pt_terms.proofs.Chaining.{conjunction_run}
 use Rattle.pt_terms.proofs.Ranges.{forms_more, All-item}
@@ -26,7 +26,7 @@ loop-f-preserved c =
     record {
       told = neighbour_goes (λ f. f.now) (compare c.args.at c.args.relation) c.args.at c.loop-f.so_far c.loop-f.before.now c.args.rest.now c.loop-f.f-index c.f-item.result c.loop-f.self _ c.loop-f-test.true c.f-item.is c.loop-f.invariant.told _ _ c.in-Ok.ensures.gives;
       range = c.in-Ok.ensures.range;
-      before = All-item (λ f. IsFormBelow c.compare_next.new.self.given f.now) c.args.rest.now c.loop-f.f-index c.f-item.result c.loop-f-test.true c.f-item.is rest;
+      before = All-item (λ f. IsFormOver c.compare_next.new.self.given f.now) c.args.rest.now c.loop-f.f-index c.f-item.result c.loop-f-test.true c.f-item.is rest;
       rest = rest;
       grows = grows_trans c.args.self.now c.loop-f.self c.compare_next.new.self c.loop-f.invariant.grows c.in-Ok.ensures.grows;
     }

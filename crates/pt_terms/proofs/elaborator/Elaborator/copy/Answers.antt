@@ -1,4 +1,4 @@
-use Rattle.std.proofs.Common.{◌≡◌, map, zip, length, ap, sym, ◌∙◌}
+use Rattle.std.proofs.Common.{◌≡◌, map, length, ap, sym, ◌∙◌}
 use Rattle.std.specs.Prelude.{Ok}
 use Rattle.pt_terms.specs.Copies.{marks_of, new_number}
 use Rattle.pt_terms.proofs.NodeCopies.{marks-length, copy-fails, copy-goes}
@@ -12,10 +12,10 @@ copy_nodes-requires-clause-marks c =
 pub returns-in-Err-clause-gives : goal.returns-in-Err-clause-gives
 returns-in-Err-clause-gives c =
     let marks : c.in_ok-marks.marks.items ≡ marks_of c.args.self.now.formula c.args.body = c.in_ok-marks.ensures.ok in
-    copy-fails c.args.at (zip c.args.parameters.now (map (λ f. f.now) c.args.forms.now)) c.args.body c.args.self.now c.as_slice.result.now (c.as_slice.ensures.value ∙ marks) _ c.in-Err.ensures.gives
+    copy-fails c.args.at (map (λ r. (r.0, r.1.now)) c.args.replacements.now) c.args.body c.args.self.now c.as_slice.result.now (c.as_slice.ensures.value ∙ marks) _ c.in-Err.ensures.gives
 
 pub returns-clause-gives : goal.returns-clause-gives
 returns-clause-gives c =
     let marks : c.in_ok-marks.marks.items ≡ marks_of c.args.self.now.formula c.args.body = c.in_ok-marks.ensures.ok in
     let number : new_number c.in-Ok.numbers.items c.args.body ≡ c.new_number.result = ap (λ ns. new_number ns c.args.body) (sym c.as_slice-in-Ok.ensures.value) ∙ sym c.new_number.ensures.is in
-    copy-goes c.args.at (zip c.args.parameters.now (map (λ f. f.now) c.args.forms.now)) c.args.body c.args.self.now c.as_slice.result.now (c.as_slice.ensures.value ∙ marks) c.in-Ok.numbers.items c.copy_nodes.new.self c.in-Ok.ensures.gives ∙ ap (λ i. Ok (i, c.copy_nodes.new.self)) number
+    copy-goes c.args.at (map (λ r. (r.0, r.1.now)) c.args.replacements.now) c.args.body c.args.self.now c.as_slice.result.now (c.as_slice.ensures.value ∙ marks) c.in-Ok.numbers.items c.copy_nodes.new.self c.in-Ok.ensures.gives ∙ ap (λ i. Ok (i, c.copy_nodes.new.self)) number

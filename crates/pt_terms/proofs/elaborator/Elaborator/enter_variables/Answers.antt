@@ -6,4 +6,4 @@ use Rattle.pt_terms.proofs.elaborator.Elaborator.enter_variables.Goals as goal
 pub returns-in-Ok-clause-range : goal.returns-in-Ok-clause-range
 returns-in-Ok-clause-range c =
     rw c.in-Ok.ensures.ok
-    (IsEnvIn-bind c.args.self.now c.args.env.now (map as_bound (reverse (map (λ x. (x.0.now, x.1)) c.args.variables.now))) c.requires.env (variables_in c.args.self.now (λ x. (x.0.now, x.1)) c.args.variables.now c.requires.variables))
+    (IsEnvIn-bind c.args.self.now c.args.env.now (map as_bound (reverse (map (λ x. (x.0.now, x.1, x.2)) c.args.variables.now))) c.requires.env (variables_in c.args.self.now (λ x. (x.0.now, x.1, x.2)) c.args.variables.now c.requires.variables))

@@ -5,4 +5,4 @@ use Rattle.pt_terms.proofs.elaborator.Elaborator.node.Goals as goal
 pub returns-clause-range : goal.returns-clause-range
 returns-clause-range c =
     let lt : c.args.i < length c.self.inside.formula = rw (ap (λ w. length w.formula) c.self.view_is) c.requires in
-    rw (← c.self.view_is, c.node.ensures) (node_below c.self.inside.formula c.self.inside.given c.args.i c.is_formula.ensures (c.trees_are_made_of_those_of_the_children.ensures c.self.inside.formula c.args.i c.is_formula.ensures) c.self.invariant lt)
+    rw (← c.self.view_is, c.node.ensures) (node_below c.self.inside.formula c.self.inside.sorts.items c.args.i c.is_formula.ensures c.self.invariant.below c.self.invariant.sorted lt)
