@@ -169,8 +169,11 @@ fn compare_from(piece: &Piece, shape: &Shape, best: &Best, states: &[u32], from:
     Ordering::Equal
 }
 
-/// How the outputs in the order from an entry compare with those in the best order. Breadth first, and only as far as they
-/// are the same and no bound decides.
+/// How many steps a search makes before the rows of the states that it met are compared.
+const STEPS: usize = 8;
+
+/// How the outputs in the order from an entry compare with those in the best order. Breadth first, and only some steps
+/// further than they are the same and no bound decides.
 pub(crate) fn compare_rows(
     piece: &Piece,
     shape: &Shape,
@@ -190,12 +193,14 @@ pub(crate) fn compare_rows(
     order.begin(entry)?;
     let mut compared = 0;
     for next in 0..piece.states as usize {
-        let verdict = compare_from(piece, shape, best, &order.states, compared);
-        let Ordering::Equal = verdict else {
-            return Ok(verdict);
-        };
-        compared = order.states.len();
+        if next % STEPS == 0 {
+            let verdict = compare_from(piece, shape, best, &order.states, compared);
+            let Ordering::Equal = verdict else {
+                return Ok(verdict);
+            };
+            compared = order.states.len();
+        }
         visit_next(&shape.near, order, next)?;
     }
-    Ok(Ordering::Equal)
+    Ok(compare_from(piece, shape, best, &order.states, compared))
 }
