@@ -1,8 +1,9 @@
 //! Scripts from bytes to bytes.
 #![tactic(auto)]
 
+mod drilling;
+mod growing;
 pub mod laws;
-mod options;
 mod script;
 mod status;
 #[cfg(test)]

@@ -8,6 +8,7 @@ use std::process::Abort;
 use std::test::Fail;
 use std::thread::Threads;
 
+mod drills;
 mod laws;
 mod sets;
 
@@ -234,7 +235,7 @@ fn a_script_of_many_commands(rt: HostRuntime) -> Result<(), Fail> {
 }
 
 /// How a run ends, and what it has written, whose source and sink each fail at one call and whose store has one shard.
-fn ending(
+pub(crate) fn ending(
     rt: &(impl Threads + Sync),
     alloc: Global,
     words: &str,
@@ -266,7 +267,7 @@ fn ending(
     Ok((status, written, codes))
 }
 
-const NEVER: u64 = 100_000_000;
+pub(crate) const NEVER: u64 = 100_000_000;
 
 #[test]
 fn runs_that_end_otherwise(rt: HostRuntime) -> Result<(), Fail> {
