@@ -49,7 +49,16 @@ pub(crate) fn drill<K: Sink, G: Gate, I: Interner, R: Threads + Sync>(
         return Status::NoMemory;
     };
     let mut output = GrowingSink::new(alloc);
-    match answer(rt, alloc, script.as_slice(), given, &mut output, gate, store, pass) {
+    match answer(
+        rt,
+        alloc,
+        script.as_slice(),
+        given,
+        &mut output,
+        gate,
+        store,
+        pass,
+    ) {
         Status::Done => sum_up(alloc, sink, given, output.bytes.as_slice()),
         Status::Refused => end_with(sink, last_line(output.bytes.as_slice())),
         Status::StoreFull { shard } => Status::StoreFull { shard },

@@ -1,6 +1,5 @@
 // A sink in memory that grows.
 ghost use Rattle.std.specs.Prelude.{◌≡◌, Some, []};
-ghost use Rattle.pt_io.specs.Streams.{Rose, Wrote};
 
 use pt_io::{Failed, Sink};
 use std::alloc::Global;

@@ -198,7 +198,7 @@ fn answer_command<K: Sink, G: Gate, I: Interner, R: Threads + Sync>(
     ensures extends { Extends (I.Pass.lists pass.old) (I.Pass.lists pass.new) }
     ensures kept { I.owns store.now pass.new }
 {
-    let asked = session.execute(
+    match session.execute(
         rt,
         alloc,
         command,
@@ -207,8 +207,7 @@ fn answer_command<K: Sink, G: Gate, I: Interner, R: Threads + Sync>(
         given.states,
         given.workers,
         gate,
-    );
-    match asked {
+    ) {
         Ok(reply) => write_reply(sink, reply),
         Err(fault) => match end_of(fault) {
             Some(status) => Some(status),

@@ -9,15 +9,15 @@ loop-i-init c = record { before = omega arith; within = omega arith; same = sym 
 pub loop-i-preserved : goal.loop-i-preserved
 loop-i-preserved c = elim c.if-text-i-eq10.branch [
   | then-text-i-eq10 w ↦ record {
-      before = omega arith;
-      within = omega arith;
-      same = next-feed c.args.text.now c.loop-i.start c.if-text-i-eq10.start c.loop-i.i w.start-is c.loop-i.auto.i c.loop-i-test.true w.if-text-i-eq10.true c.loop-i.invariant.same;
-    }
+    before = omega arith;
+    within = omega arith;
+    same = next-feed c.args.text.now c.loop-i.start c.if-text-i-eq10.start c.loop-i.i w.start-is c.loop-i.auto.i c.loop-i-test.true w.if-text-i-eq10.true c.loop-i.invariant.same;
+  }
   | else-text-i-eq10 w ↦ record {
-      before = omega arith;
-      within = omega arith;
-      same = next-other c.args.text.now c.loop-i.start c.if-text-i-eq10.start c.loop-i.i w.start-is c.loop-i.auto.i c.loop-i-test.true w.if-text-i-eq10.false c.loop-i.invariant.same;
-    }
+    before = omega arith;
+    within = omega arith;
+    same = next-other c.args.text.now c.loop-i.start c.if-text-i-eq10.start c.loop-i.i w.start-is c.loop-i.auto.i c.loop-i-test.true w.if-text-i-eq10.false c.loop-i.invariant.same;
+  }
 ]
 
 pub returns : goal.returns
