@@ -2,6 +2,7 @@
 ghost use Rattle.std.specs.Prelude.{◌≡◌, ◌++◌, IfOk, OnOk, IfSome, decimal};
 ghost use Rattle.pt_drill.specs.Summary.{count_of, number_on, sum_of, summary as summary_line, last_line as last_line_of};
 
+use crate::script::write_number;
 use pt_digits::NoMemory;
 use std::alloc::Global;
 
@@ -16,17 +17,17 @@ pub fn summary(alloc: Global, seed: u32, size: u32, output: &[u8]) -> Result<Vec
         return Err(NoMemory);
     };
     let mut line = Vec::new(alloc);
-    write_shown(alloc, &mut line, b"drill ", u64::from(seed))?;
-    write_shown(alloc, &mut line, b" ", u64::from(size))?;
-    write_shown(alloc, &mut line, b": ", count(output, b"sat") as u64)?;
-    write_shown(alloc, &mut line, b" sat, ", count(output, b"unsat") as u64)?;
-    write_shown(alloc, &mut line, b" unsat, ", states)?;
+    write_number(alloc, &mut line, b"drill ", seed)?;
+    write_number(alloc, &mut line, b" ", size)?;
+    write_count(alloc, &mut line, b": ", count(output, b"sat"))?;
+    write_count(alloc, &mut line, b" sat, ", count(output, b"unsat"))?;
+    write_count(alloc, &mut line, b" unsat, ", states)?;
     line.extend_from_slice(b" states\n")?;
     Ok(line)
 }
 
-/// A number, and what stands before it.
-fn write_shown(alloc: Global, out: &mut Vec<u8>, before: &[u8], n: u64) -> Result<(), NoMemory>
+/// A count, and what stands before it.
+fn write_count(alloc: Global, out: &mut Vec<u8>, before: &[u8], n: u64) -> Result<(), NoMemory>
     ensures { OnOk result (out.new.items ≡ out.old.items ++ before.now ++ decimal n) }
 {
     let digits = format!(in alloc; "{n}")?;
@@ -36,13 +37,13 @@ fn write_shown(alloc: Global, out: &mut Vec<u8>, before: &[u8], n: u64) -> Resul
 }
 
 /// How many lines are this word.
-fn count(output: &[u8], word: &[u8]) -> usize
+fn count(output: &[u8], word: &[u8]) -> u64
     ensures { result ≡ count_of word.now output.now }
 {
     output
         .split(|b| *b == b'\n')
         .filter(|line| *line == word)
-        .count()
+        .count() as u64
 }
 
 /// The sum of the lines that are numbers, where it fits.

@@ -66,21 +66,21 @@ of_none words P none = λ o gives. absurd (none (o, gives))
 
 -- a mode is not another
 pub apart : {A : Type 0} (mode : Mode) → mode ≡ Solve → mode ≡ Drill → A
-apart mode solve drill = let e : Solve ≡ Drill = sym solve ∙ drill in cc
+apart mode solve drill = absurd (let e : Solve ≡ Drill = sym solve ∙ drill in cc)
 
 -- ---- what was written
 
+same_answers : (o : Options) (text : List ℕ) (old new : Option (List ℕ)) (how : Status) → Answers text o.states old new how → AnswersIn Solve o text old new how
+same_answers o text old new status.Done h = h
+same_answers o text old new status.Refused h = h
+same_answers o text old new status.Usage h = h
+same_answers o text old new status.ReadFault h = h
+same_answers o text old new status.WriteFault h = h
+same_answers o text old new status.NoMemory h = h
+same_answers o text old new (status.StoreFull shard) h = h
+
 pub solve_answers : (mode : Mode) (o : Options) (text : List ℕ) (old new : Option (List ℕ)) (how : Status) → mode ≡ Solve → Answers text o.states old new how → AnswersIn mode o text old new how
-solve_answers mode o text old new how is h = subst (λ (m : Mode). AnswersIn m o text old new how) (sym is) (same how h)
-  where
-    same : {o : Options} {text : List ℕ} {old new : Option (List ℕ)} (how : Status) → Answers text o.states old new how → AnswersIn Solve o text old new how
-    same status.Done h = h
-    same status.Refused h = h
-    same status.Usage h = h
-    same status.ReadFault h = h
-    same status.WriteFault h = h
-    same status.NoMemory h = h
-    same (status.StoreFull shard) h = h
+solve_answers mode o text old new how is h = subst (λ (m : Mode). AnswersIn m o text old new how) (sym is) (same_answers o text old new how h)
 
 pub nothing_in : (mode : Mode) (o : Options) (text : List ℕ) (a : Option (List ℕ)) → WroteFrontIn mode o text a a
 nothing_in Solve o text a = front_of_nothing text o.states a

@@ -16,7 +16,7 @@ use Rattle.pt_main.proofs.Streaming.{wrote-nothing}
 
 -- what was written into an empty sink is the output
 pub whole_output : (text items shown : List ℕ) (bound : ℕ) (refused : Bool) (start bytes seen : List ℕ) → text ≡ items → shown ≡ text → start ≡ [] → WroteOutput shown bound refused (Some start) (Some bytes) → seen ≡ bytes → IsOutput items bound seen refused
-whole_output text items shown bound refused start bytes seen is same none (out, output, before, first, after) see =
+whole_output text items shown bound refused start bytes seen is same none (out, output, (before, first, after)) see =
     let empty : before ≡ [] = let e : Some before ≡ Some [] = sym first ∙ ap Some none in cc in
     let read : out ≡ seen = sym (see ∙ after ∙ ap (λ (l : List ℕ). l ++ out) empty) in
     subst (λ (t : List ℕ). IsOutput t bound seen refused) (same ∙ is) (subst (λ (l : List ℕ). IsOutput shown bound l refused) read output)

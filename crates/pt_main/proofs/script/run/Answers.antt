@@ -6,7 +6,7 @@ use Rattle.pt_options.specs.declared.given.Mode.TheVariants.{Solve, Drill}
 use Rattle.pt_options.specs.declared.given.Options.{Options}
 use Rattle.pt_drill.specs.Drill.{drill_text}
 use Rattle.pt_main.specs.Ending.{HasRead}
-use Rattle.pt_main.specs.Modes.{OfScript, AnswersIn}
+use Rattle.pt_main.specs.Modes.{OfScript, AnswersIn, WroteFrontIn}
 use Rattle.pt_main.specs.Wanted.{LackAsked, KnowAnswered, OffersWithin}
 use Rattle.pt_main.proofs.Whole.{if_full, if_whole, if_told, of_any, completes}
 use Rattle.pt_main.proofs.ByMode.{in_range, of_given, of_solve, of_drill, of_all, of_none, apart, solve_answers, nothing_in}
@@ -104,28 +104,28 @@ returns-in-Drill-clause-complete g c =
 -- ---- words that give no options
 
 pub returns-in-Err-Usage-clause-usage : goal.returns-in-Err-Usage-clause-usage
-returns-in-Err-Usage-clause-usage g c = λ _. (rw c.in-Err-Usage.field-0-is at c.in-Err-Usage.ensures.usage) refl
+returns-in-Err-Usage-clause-usage g c = let none = rw c.in-Err-Usage.field-0-is at c.in-Err-Usage.ensures.usage in λ _. none refl
 
 pub returns-in-Err-Usage-clause-answer : goal.returns-in-Err-Usage-clause-answer
-returns-in-Err-Usage-clause-answer g c = of_none (map string_bytes c.args.words.now) _ ((rw c.in-Err-Usage.field-0-is at c.in-Err-Usage.ensures.usage) refl)
+returns-in-Err-Usage-clause-answer g c = let none = rw c.in-Err-Usage.field-0-is at c.in-Err-Usage.ensures.usage in of_none (map string_bytes c.args.words.now) _ (none refl)
 
 pub returns-in-Err-Usage-clause-read : goal.returns-in-Err-Usage-clause-read
-returns-in-Err-Usage-clause-read g c = of_none (map string_bytes c.args.words.now) _ ((rw c.in-Err-Usage.field-0-is at c.in-Err-Usage.ensures.usage) refl)
+returns-in-Err-Usage-clause-read g c = let none = rw c.in-Err-Usage.field-0-is at c.in-Err-Usage.ensures.usage in of_none (map string_bytes c.args.words.now) _ (none refl)
 
 pub returns-in-Err-Usage-clause-offers : goal.returns-in-Err-Usage-clause-offers
-returns-in-Err-Usage-clause-offers g c = of_none (map string_bytes c.args.words.now) _ ((rw c.in-Err-Usage.field-0-is at c.in-Err-Usage.ensures.usage) refl)
+returns-in-Err-Usage-clause-offers g c = let none = rw c.in-Err-Usage.field-0-is at c.in-Err-Usage.ensures.usage in of_none (map string_bytes c.args.words.now) _ (none refl)
 
 pub returns-in-Err-Usage-clause-complete : goal.returns-in-Err-Usage-clause-complete
-returns-in-Err-Usage-clause-complete g c = λ options. absurd ((rw c.in-Err-Usage.field-0-is at c.in-Err-Usage.ensures.usage) refl options)
+returns-in-Err-Usage-clause-complete g c = let none = rw c.in-Err-Usage.field-0-is at c.in-Err-Usage.ensures.usage in λ options. absurd (none refl options)
 
 -- ---- no memory for the words
 
 pub returns-in-Err-NoMemory-clause-answer : goal.returns-in-Err-NoMemory-clause-answer
 returns-in-Err-NoMemory-clause-answer g c =
-    of_all (map string_bytes c.args.words.now) (g.S.Source.left c.args.source.now) _ (λ o text. nothing_in o.mode o text (g.K.Sink.written c.args.sink.now))
+    of_all (map string_bytes c.args.words.now) (g.S.Source.left c.args.source.now) (λ (o : Options) (text : List ℕ). WroteFrontIn o.mode o text (g.K.Sink.written c.args.sink.now) (g.K.Sink.written c.args.sink.now)) (λ o text. nothing_in o.mode o text (g.K.Sink.written c.args.sink.now))
 
 pub returns-in-Err-NoMemory-clause-read : goal.returns-in-Err-NoMemory-clause-read
 returns-in-Err-NoMemory-clause-read g c = λ o gives solve. of_any (g.S.Source.left c.args.source.now) _ (λ text. tt)
 
 pub returns-in-Err-NoMemory-clause-offers : goal.returns-in-Err-NoMemory-clause-offers
-returns-in-Err-NoMemory-clause-offers g c = of_all (map string_bytes c.args.words.now) (g.S.Source.left c.args.source.now) _ (λ o text. (0, inl refl, omega arith))
+returns-in-Err-NoMemory-clause-offers g c = of_all (map string_bytes c.args.words.now) (g.S.Source.left c.args.source.now) (λ (o : Options) (text : List ℕ). OffersWithin text o.states (g.I.Pass.Codes.offered c.args.pass.now) (g.I.Pass.Codes.offered c.args.pass.now)) (λ o text. (0, inl refl, omega arith))
