@@ -1,9 +1,9 @@
 -- Scripts of mode drill are short.
-use Rattle.std.proofs.Common.{◌≡◌, ℕ, zero, suc, ◌+◌, ◌*◌, ◌%◌, ◌/◌, ◌≤◌, ◌<◌, ◌^◌, List, [], ◌∷◌, ◌++◌, length, length-append, subst, arith}
-use Rattle.std.specs.Prelude.{codes, decimal}
+use Rattle.std.proofs.Common.{◌≡◌, ℕ, zero, suc, ◌+◌, ◌*◌, ◌≤◌, ◌<◌, List, ◌++◌, length, length-append, subst, arith}
+use Rattle.std.specs.Prelude.{decimal}
 use Rattle.std.proofs.lemmas.Fmt.{length-decimal-le}
 use Rattle.pt_drill.specs.declared.draws.Group.{Group}
-use Rattle.pt_drill.specs.Drill.{drawn, name, line, definition, questions, groups, group_at, state_at, drill_text}
+use Rattle.pt_drill.specs.Drill.{definition, questions, groups, group_at, state_at, drill_text}
 
 -- the numbers of a group have at most two digits
 pub record IsSmall (g : Group) : Type 0 where

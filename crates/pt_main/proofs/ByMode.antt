@@ -1,5 +1,5 @@
 -- From the options that were read to those that the words give, by their mode.
-use Rattle.std.proofs.Common.{◌≡◌, ℕ, ◌≤◌, List, [], ◌++◌, ◌⊎◌, refl, inl, inr, sym, subst, ◌∙◌, arith, true, false, Bool}
+use Rattle.std.proofs.Common.{◌≡◌, ℕ, ◌≤◌, List, [], refl, inl, inr, sym, subst, ◌∙◌, arith}
 use Rattle.std.specs.Prelude.{Option, Some, None, IfSome}
 use Rattle.pt_options.specs.declared.given.Mode.{Mode}
 use Rattle.pt_options.specs.declared.given.Mode.TheVariants.{Solve, Drill}

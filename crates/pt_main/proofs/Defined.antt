@@ -1,9 +1,9 @@
 -- Words and bytes define one output.
-use Rattle.std.proofs.Common.{◌≡◌, ℕ, Bool, true, false, List, [], ◌++◌, ◌⊎◌, refl, inl, inr, ap, sym, subst, ◌∙◌}
+use Rattle.std.proofs.Common.{◌≡◌, ℕ, Bool, true, false, List, ◌++◌, refl, inl, inr, ap, sym, subst, ◌∙◌}
 use Rattle.pt_options.specs.declared.given.Mode.{Mode}
 use Rattle.pt_options.specs.declared.given.Mode.TheVariants.{Solve, Drill}
 use Rattle.pt_options.specs.declared.given.Options.{Options}
-use Rattle.pt_options.specs.Options.{GiveOptions, AreOptions}
+use Rattle.pt_options.specs.Options.{AreOptions}
 use Rattle.pt_drill.specs.Drill.{drill_text}
 use Rattle.pt_drill.specs.Summary.{summary, last_line}
 use Rattle.pt_main.specs.Output.{IsOutput, IsFrontOf, IsFrontOfOutput}

@@ -1,8 +1,7 @@
 -- How a run of mode drill ends.
-use Rattle.std.proofs.Common.{◌≡◌, ℕ, Bool, true, false, List, [], ◌++◌, length, ◌⊎◌, refl, inl, inr, ap, sym, subst, ◌∙◌}
-use Rattle.std.specs.Prelude.{Option, Some, None}
-use Rattle.pt_io.specs.Streams.{Wrote}
-use Rattle.pt_options.specs.declared.given.Mode.TheVariants.{Solve, Drill}
+use Rattle.std.proofs.Common.{◌≡◌, ℕ, Bool, true, false, List, [], ◌++◌, refl, inl, inr, ap, sym, subst, ◌∙◌}
+use Rattle.std.specs.Prelude.{Option, Some}
+use Rattle.pt_options.specs.declared.given.Mode.TheVariants.{Drill}
 use Rattle.pt_options.specs.declared.given.Options.{Options}
 use Rattle.pt_drill.specs.Drill.{drill_text}
 use Rattle.pt_drill.specs.Summary.{summary, last_line}
@@ -10,7 +9,7 @@ use Rattle.pt_main.specs.declared.status.Status.{Status}
 use Rattle.pt_main.specs.declared.status.Status.TheVariants as status
 use Rattle.pt_main.specs.Output.{IsOutput}
 use Rattle.pt_main.specs.Ending.{WroteOutput, IfFull}
-use Rattle.pt_main.specs.Modes.{IsDrillOutput, AnswersIn, EndsWithSummary}
+use Rattle.pt_main.specs.Modes.{AnswersIn, EndsWithSummary}
 use Rattle.pt_main.specs.Parts.{EndsWithLine, IsOfText}
 use Rattle.pt_main.proofs.Streaming.{wrote-nothing}
 

@@ -1,5 +1,5 @@
 -- From the source to the text that a run answers.
-use Rattle.std.proofs.Common.{◌≡◌, ◌≢◌, ℕ, ◌<◌, List, [], ◌∷◌, ◌++◌, length, drop, ◌⊎◌, refl, inl, inr, ap, sym, subst, ◌∙◌, arith, length-append, true}
+use Rattle.std.proofs.Common.{◌≡◌, ◌≢◌, ℕ, ◌<◌, List, [], length, drop, ◌⊎◌, refl, inl, inr, ap, subst, ◌∙◌, arith, length-append, true}
 use Rattle.std.specs.Prelude.{Option, Some, None, IfSome}
 use Rattle.pt_io.specs.Streams.{TookCount}
 use Rattle.pt_sets.specs.Lists.{Lists, Home, list_of}

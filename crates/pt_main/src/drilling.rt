@@ -9,7 +9,7 @@ ghost use Rattle.pt_main.specs.Modes.{AreInRange, AnswersIn, EndsWithSummary};
 ghost use Rattle.pt_main.specs.Wanted.{LackAsked, KnowAnswered, OffersWithin};
 ghost use Rattle.pt_main.specs.Parts.{IsOfText};
 
-use crate::growing::GrowingSink;
+use crate::memory::GrowingSink;
 use crate::script::{answer, end_with};
 use crate::status::Status;
 use pt_drill::laws::scripts_are_short;

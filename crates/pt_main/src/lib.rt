@@ -2,8 +2,8 @@
 #![tactic(auto)]
 
 mod drilling;
-mod growing;
 pub mod laws;
+mod memory;
 mod script;
 mod status;
 #[cfg(test)]
