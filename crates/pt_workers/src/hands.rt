@@ -2,7 +2,7 @@
 ghost use Rattle.std.specs.Prelude.{◌≡◌, All, vec_len, IfOk};
 ghost use Rattle.pt_workers.specs.Reports.{Each, IsHandOf, IsReady, IsReportFor};
 
-use crate::share::work_through;
+use crate::sharing::work_through;
 use crate::work::Work;
 use pt_store::{Codes, Interner, Sharing, StoreFault};
 use std::alloc::{AllocError, Global};

@@ -4,10 +4,10 @@
 mod deal;
 mod hands;
 mod join;
-mod share;
+mod sharing;
 mod work;
 
-pub use share::share;
+pub use sharing::share;
 pub use work::Work;
 
 #[cfg(test)]

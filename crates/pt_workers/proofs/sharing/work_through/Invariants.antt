@@ -1,7 +1,7 @@
 use Rattle.std.proofs.Common.{◌≡◌, ◌+◌, ◌≤◌, map, take}
 use Rattle.std.specs.Prelude.{All, sum_by}
 use Rattle.pt_sets.specs.Lists.{Extends}
-use Rattle.pt_workers.proofs.share.work_through.Given as goal
+use Rattle.pt_workers.proofs.sharing.work_through.Given as goal
 
 abbrev pub invariant-loop-number : goal.invariant-loop-number
 invariant-loop-number g l = record {

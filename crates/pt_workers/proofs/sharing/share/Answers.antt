@@ -6,7 +6,7 @@ use Rattle.pt_workers.specs.Works.{all_of}
 use Rattle.pt_workers.specs.Reports.{reported}
 use Rattle.pt_workers.proofs.Handing.{ready-hands, own-reports, reported-dealt}
 use Rattle.pt_workers.proofs.Joining.{ok-moved, err-moved}
-use Rattle.pt_workers.proofs.share.share.Goals as goal
+use Rattle.pt_workers.proofs.sharing.share.Goals as goal
 
 pub work_each-requires-after_bounds : goal.work_each-requires-after_bounds
 work_each-requires-after_bounds g c κs within =

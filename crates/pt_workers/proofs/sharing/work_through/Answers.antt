@@ -6,7 +6,7 @@ use Rattle.pt_sets.proofs.ListLaws.{Extends-trans}
 use Rattle.pt_workers.specs.Works.{AreTold, Some_of}
 use Rattle.pt_workers.proofs.Dealing.{take-next, told-push, numbers-push, told-in_order}
 use Rattle.pt_workers.proofs.Refusing.{refuses-moved, offers-next, offers-front}
-use Rattle.pt_workers.proofs.share.work_through.Goals as goal
+use Rattle.pt_workers.proofs.sharing.work_through.Goals as goal
 
 pub returns-in-Err-clause-err : goal.returns-in-Err-clause-err
 returns-in-Err-clause-err g c =
