@@ -61,12 +61,6 @@ module _ (p : Component) (in_p : IsComponent p) (connected : IsStronglyConnected
       verdict-all 0 (row_of p) (row_of p) (2 ^ p.tracks) output-row output-row first second Equal (first-long ∙ sym second-long)
       (record { same = λ even i h. same i (let long = first-long in omega (arith, long, h)); apart = λ apart. absurd (apart refl) })
 
-  -- a verdict on all rows
-  pub rows-verdict : (best : List ℕ) (o : Ordering) → best ≡ second → IsVerdict (λ i. row_of p (get_or first i 0)) (λ i. row_of p (get_or best i 0)) p.states o → o ≡ slice_cmp nat_cmp (outputs_part p first) (outputs_part p second)
-  rows-verdict best Less is verdict = rows-decided best Less is (λ e. cc e) verdict
-  rows-verdict best Greater is verdict = rows-decided best Greater is (λ e. cc e) verdict
-  rows-verdict best Equal is verdict = rows-same (λ i h. verdict.same refl i h ∙ ap (λ (l : List ℕ). row_of p (get_or l i 0)) is)
-
   links-cmp : slice_cmp nat_cmp (links_part p e) (links_part p b)
       ≡ ordering_then (slice_cmp nat_cmp (flat_map (edge_row p e) first) (flat_map (edge_row p b) second)) (slice_cmp nat_cmp (exits_part (exits_in_order p first)) (exits_part (exits_in_order p second)))
   links-cmp =

@@ -85,6 +85,13 @@ module _ (states places : List ℕ) (numbered : IsNumbered states places) where
             j (omega (arith, long, h));
       }
 
+pub numbered-room : (states places : List ℕ) → IsNumbered states places → (q : ℕ) → q < length places → list_any (◌==◌ q) states ≡ false → length states < length places
+numbered-room states places numbered q in_q none =
+    let few = numbered-few (states ++ q ∷ []) (set places q (length states)) (numbered-more states places numbered q in_q none) in
+    let long = length-append states (q ∷ []) in
+    let size = length-set places q (length states) in
+    omega (arith, few, long, size)
+
 pub visit-known : (states : List ℕ) (q : ℕ) → list_any (◌==◌ q) states ≡ true → states ≡ visit_one states q
 visit-known states q hit = sym (ap (λ b. cond b states (states ++ q ∷ [])) hit)
 

@@ -1,5 +1,5 @@
 // The least code of a component.
-ghost use Rattle.std.specs.Prelude.{◌≡◌, ◌+◌, ◌<◌, IfOk, OnOk, length, slice_index, vec_len};
+ghost use Rattle.std.specs.Prelude.{◌≡◌, ◌+◌, ◌<◌, IfOk, length, slice_index, vec_len};
 ghost use Rattle.std.specs.Arc.{arc_value};
 ghost use Rattle.std.specs.Ordering.{nat_cmp};
 ghost use Rattle.std.specs.Cmp.Lexicographic.{slice_cmp};
@@ -58,19 +58,18 @@ impl Coded {
 }
 
 /// Makes an entry the best one.
-fn set_best(piece: &Piece, shape: &Shape, entry: u32, best: &mut Best) -> Result<(), NoMemory>
+fn set_best(piece: &Piece, shape: &Shape, entry: u32, best: &mut Best)
     requires component { IsComponent (component piece.now) }
     requires connected { IsStronglyConnected (component piece.now) }
     requires shape { IsShape (component piece.now) shape.now }
     requires entry { entry < piece.now.states }
     requires room { vec_len best.old.order.places ≡ piece.now.states }
-    ensures entry { OnOk result (best.new.entry ≡ entry) }
-    ensures best { OnOk result (IsBest (component piece.now) shape.now.highs.items best.new) }
+    ensures entry { best.new.entry ≡ entry }
+    ensures best { IsBest (component piece.now) shape.now.highs.items best.new }
 {
-    search(piece, &shape.near, entry, &mut best.order)?;
+    search(piece, &shape.near, entry, &mut best.order);
     best.entry = entry;
     best.run = run_of(&shape.highs, &best.order.states);
-    Ok(())
 }
 
 /// How the outputs in the order from an entry compare with those in the best order.
@@ -80,18 +79,18 @@ fn compare_states(
     best: &Best,
     entry: u32,
     order: &mut Order,
-) -> Result<Ordering, NoMemory>
+) -> Ordering
     requires component { IsComponent (component piece.now) }
     requires connected { IsStronglyConnected (component piece.now) }
     requires shape { IsShape (component piece.now) shape.now }
     requires best { IsBest (component piece.now) shape.now.highs.items best.now }
     requires entry { entry < piece.now.states }
     requires room { vec_len order.old.places ≡ piece.now.states }
-    ensures order { IfOk result (λ o. o ≡ slice_cmp nat_cmp (outputs_part (component piece.now) (states_in_order (component piece.now) entry)) (outputs_part (component piece.now) (states_in_order (component piece.now) best.now.entry))) }
+    ensures order { result ≡ slice_cmp nat_cmp (outputs_part (component piece.now) (states_in_order (component piece.now) entry)) (outputs_part (component piece.now) (states_in_order (component piece.now) best.now.entry)) }
     ensures room { vec_len order.new.places ≡ vec_len order.old.places }
 {
     if shape.flat {
-        return Ok(Ordering::Equal);
+        return Ordering::Equal;
     }
     compare_rows(piece, shape, best, entry, order)
 }
@@ -117,7 +116,7 @@ fn compare_entry(
     ensures room { vec_len side.new.order.places ≡ vec_len side.old.order.places }
     ensures other_room { vec_len other.new.order.places ≡ vec_len other.old.order.places }
 {
-    let order = compare_states(piece, shape, best, entry, &mut side.order)?;
+    let order = compare_states(piece, shape, best, entry, &mut side.order);
     let Ordering::Equal = order else {
         return Ok(order);
     };
@@ -125,13 +124,7 @@ fn compare_entry(
 }
 
 /// Makes an entry the best one where its code is less.
-fn improve(
-    piece: &Piece,
-    shape: &Shape,
-    order: Ordering,
-    entry: u32,
-    best: &mut Best,
-) -> Result<(), NoMemory>
+fn improve(piece: &Piece, shape: &Shape, order: Ordering, entry: u32, best: &mut Best)
     requires component { IsComponent (component piece.now) }
     requires connected { IsStronglyConnected (component piece.now) }
     requires shape { IsShape (component piece.now) shape.now }
@@ -139,12 +132,12 @@ fn improve(
     requires best { IsBest (component piece.now) shape.now.highs.items best.old }
     requires order { order ≡ slice_cmp nat_cmp (code_from (component piece.now) entry) (code_from (component piece.now) best.old.entry) }
     requires leads { Leads (component piece.now) entry best.old.entry }
-    ensures best { OnOk result (IsBest (component piece.now) shape.now.highs.items best.new) }
-    ensures leads { OnOk result (Leads (component piece.now) (entry + 1) best.new.entry) }
+    ensures best { IsBest (component piece.now) shape.now.highs.items best.new }
+    ensures leads { Leads (component piece.now) (entry + 1) best.new.entry }
 {
     match order {
         Ordering::Less => set_best(piece, shape, entry, best),
-        _ => Ok(()),
+        _ => {}
     }
 }
 
@@ -162,12 +155,12 @@ fn best_of(alloc: Global, piece: &Piece) -> Result<Best, NoMemory>
         order: Order::new(alloc, piece.states)?,
         run: 0,
     };
-    set_best(piece, &shape, 0, &mut best)?;
+    set_best(piece, &shape, 0, &mut best);
     let mut side = Side::new(alloc, piece.states)?;
     let mut other = Side::new(alloc, piece.states)?;
     for entry in 1..piece.states {
         let order = compare_entry(alloc, piece, &shape, &best, entry, &mut side, &mut other)?;
-        improve(piece, &shape, order, entry, &mut best)?;
+        improve(piece, &shape, order, entry, &mut best);
     }
     Ok(best)
 }

@@ -43,16 +43,16 @@ impl Side {
     }
 
     /// Begins anew at an entry.
-    fn begin(&mut self, entry: u32) -> Result<(), NoMemory>
+    fn begin(&mut self, entry: u32)
         requires entry { entry < vec_len self.old.order.places }
         requires few { vec_len self.old.order.places ≤ 65536 }
-        ensures states { OnOk result (self.new.order.states.items ≡ visit_one [] entry) }
-        ensures exits { OnOk result (self.new.exits.keys ≡ []) }
-        ensures numbered { OnOk result (IsNumbered self.new.order.states.items self.new.order.places.items) }
+        ensures states { self.new.order.states.items ≡ visit_one [] entry }
+        ensures exits { self.new.exits.keys ≡ [] }
+        ensures numbered { IsNumbered self.new.order.states.items self.new.order.places.items }
         ensures room { vec_len self.new.order.places ≡ vec_len self.old.order.places }
     {
         self.exits.clear();
-        self.order.begin(entry)
+        self.order.begin(entry);
     }
 
     /// The number of an edge: that of the state or of the exit that it leads to, which is met by it.
@@ -71,7 +71,7 @@ impl Side {
         ensures room { vec_len self.new.order.places ≡ vec_len self.old.order.places }
     {
         match edge {
-            Edge::Near(state) => self.order.number(state),
+            Edge::Near(state) => Ok(self.order.number(state)),
             Edge::Far(exit) => {
                 let (index, _) = self.exits.insert_full(exit)?;
                 Ok(states + index as u32)
@@ -143,8 +143,8 @@ pub(crate) fn compare_links(
     ensures room { vec_len side.new.order.places ≡ vec_len side.old.order.places }
     ensures other_room { vec_len other.new.order.places ≡ vec_len other.old.order.places }
 {
-    side.begin(entry)?;
-    other.begin(other_entry)?;
+    side.begin(entry);
+    other.begin(other_entry);
     for next in 0..piece.states as usize {
         let state = side.order.states[next];
         side.number_row(edges_of(piece, state), piece.states)?;

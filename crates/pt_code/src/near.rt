@@ -1,5 +1,5 @@
 // The successors of states, each once.
-ghost use Rattle.std.specs.Prelude.{◌≡◌, ◌+◌, ◌<◌, ◌≤◌, IfOk, OnOk, vec_len, slice_index, slice_range};
+ghost use Rattle.std.specs.Prelude.{◌≡◌, ◌+◌, ◌<◌, ◌≤◌, IfOk, vec_len, slice_index, slice_range};
 ghost use Rattle.pt_sets.specs.Components.{IsComponent, IsStronglyConnected, states_in_order};
 ghost use Rattle.pt_code.specs.Component.{component};
 ghost use Rattle.pt_code.specs.Searching.{AreRows, IsNear, IsNumbered, row_at, visit_all};
@@ -42,7 +42,7 @@ pub(crate) fn near_of(alloc: Global, piece: &Piece) -> Result<Near, NoMemory>
     let mut targets = Vec::new(alloc);
     starts.push(0)?;
     for state in 0..piece.states {
-        met.begin_behind(edges_of(piece, state))?;
+        met.begin_behind(edges_of(piece, state));
         targets.extend_from_slice(&met.states)?;
         starts.push(targets.len())?;
     }
@@ -50,38 +50,32 @@ pub(crate) fn near_of(alloc: Global, piece: &Piece) -> Result<Near, NoMemory>
 }
 
 /// Meets the successors of the state at a place.
-pub(crate) fn visit_next(near: &Near, order: &mut Order, next: usize) -> Result<(), NoMemory>
+pub(crate) fn visit_next(near: &Near, order: &mut Order, next: usize)
     requires rows { AreRows (vec_len order.old.places) near.now.starts.items near.now.targets.items }
     requires numbered { IsNumbered order.old.states.items order.old.places.items }
     requires few { vec_len order.old.places ≤ 65536 }
     requires next { next < vec_len order.old.states }
-    ensures states { OnOk result (order.new.states.items ≡ visit_all order.old.states.items (row_at near.now.starts.items near.now.targets.items (slice_index order.old.states.items next))) }
-    ensures numbered { OnOk result (IsNumbered order.new.states.items order.new.places.items) }
+    ensures states { order.new.states.items ≡ visit_all order.old.states.items (row_at near.now.starts.items near.now.targets.items (slice_index order.old.states.items next)) }
+    ensures numbered { IsNumbered order.new.states.items order.new.places.items }
     ensures room { vec_len order.new.places ≡ vec_len order.old.places }
 {
     let state = order.states[next];
-    order.visit(near.of(state))
+    order.visit(near.of(state));
 }
 
 /// Searches breadth first from an entry.
-pub(crate) fn search(
-    piece: &Piece,
-    near: &Near,
-    entry: u32,
-    order: &mut Order,
-) -> Result<(), NoMemory>
+pub(crate) fn search(piece: &Piece, near: &Near, entry: u32, order: &mut Order)
     requires component { IsComponent (component piece.now) }
     requires connected { IsStronglyConnected (component piece.now) }
     requires entry { entry < piece.now.states }
     requires near { IsNear (component piece.now) near.now.starts.items near.now.targets.items }
     requires room { vec_len order.old.places ≡ piece.now.states }
-    ensures states { OnOk result (order.new.states.items ≡ states_in_order (component piece.now) entry) }
-    ensures numbered { OnOk result (IsNumbered order.new.states.items order.new.places.items) }
+    ensures states { order.new.states.items ≡ states_in_order (component piece.now) entry }
+    ensures numbered { IsNumbered order.new.states.items order.new.places.items }
     ensures room { vec_len order.new.places ≡ vec_len order.old.places }
 {
-    order.begin(entry)?;
+    order.begin(entry);
     for next in 0..piece.states as usize {
-        visit_next(near, order, next)?;
+        visit_next(near, order, next);
     }
-    Ok(())
 }

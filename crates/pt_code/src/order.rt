@@ -1,5 +1,5 @@
 // States in the order in which a search meets them.
-ghost use Rattle.std.specs.Prelude.{◌≡◌, ◌<◌, ◌≤◌, ◌==◌, [], true, false, vec_len, All, IfOk, OnOk, MatchOption};
+ghost use Rattle.std.specs.Prelude.{◌≡◌, ◌<◌, ◌≤◌, ◌==◌, [], true, false, vec_len, vec_capacity, All, IfOk, MatchOption};
 ghost use Rattle.std.specs.List.{list_any, position_or_len};
 ghost use Rattle.pt_sets.specs.Components.{StaysWithin, near_states};
 ghost use Rattle.pt_code.specs.Searching.{IsNumbered, visit_one, visit_all};
@@ -10,11 +10,12 @@ use std::alloc::Global;
 
 /// States, each once, and the place of each among them. A state is there exactly if the place that is noted for it holds
 /// it, so nothing has to be reset where an order begins anew (Briggs and Torczon, "An Efficient Representation for Sparse
-/// Sets", 1993).
+/// Sets", 1993). There is room for each state that has a place, so that meeting one takes no memory.
 #[derive(Drop)]
 pub(crate) struct Order {
     pub(crate) states: Vec<u32>,
     pub(crate) places: Vec<u32>,
+    ghost reserved: { vec_len places ≤ vec_capacity states },
 }
 
 impl Order {
@@ -24,7 +25,7 @@ impl Order {
         ensures room { IfOk result (λ order. vec_len order.places ≡ count) }
     {
         Ok(Order {
-            states: Vec::new(alloc),
+            states: Vec::with_capacity(alloc, count as usize)?,
             places: vec![in alloc; 0u32; count as usize]?,
         })
     }
@@ -46,65 +47,62 @@ impl Order {
     }
 
     /// The place of a state, which goes behind those that are there unless it is one of them.
-    pub(crate) fn number(&mut self, state: u32) -> Result<u32, NoMemory>
+    pub(crate) fn number(&mut self, state: u32) -> u32
         requires state { state < vec_len self.old.places }
         requires few { vec_len self.old.places ≤ 65536 }
         requires numbered { IsNumbered self.old.states.items self.old.places.items }
-        ensures states { OnOk result (self.new.states.items ≡ visit_one self.old.states.items state) }
-        ensures place { IfOk result (λ place. place ≡ position_or_len (◌==◌ state) self.old.states.items) }
-        ensures numbered { OnOk result (IsNumbered self.new.states.items self.new.places.items) }
+        ensures states { self.new.states.items ≡ visit_one self.old.states.items state }
+        ensures place { result ≡ position_or_len (◌==◌ state) self.old.states.items }
+        ensures numbered { IsNumbered self.new.states.items self.new.places.items }
         ensures room { vec_len self.new.places ≡ vec_len self.old.places }
     {
         if let Some(place) = self.place_of(state) {
-            return Ok(place);
+            return place;
         }
         let place = self.states.len() as u32;
-        self.states.push(state)?;
+        self.states.push_reserved(state);
         self.places[state as usize] = place;
-        Ok(place)
+        place
     }
 
     /// Begins anew with one state.
-    pub(crate) fn begin(&mut self, entry: u32) -> Result<(), NoMemory>
+    pub(crate) fn begin(&mut self, entry: u32)
         requires entry { entry < vec_len self.old.places }
         requires few { vec_len self.old.places ≤ 65536 }
-        ensures states { OnOk result (self.new.states.items ≡ visit_one [] entry) }
-        ensures numbered { OnOk result (IsNumbered self.new.states.items self.new.places.items) }
+        ensures states { self.new.states.items ≡ visit_one [] entry }
+        ensures numbered { IsNumbered self.new.states.items self.new.places.items }
         ensures room { vec_len self.new.places ≡ vec_len self.old.places }
     {
         self.states.clear();
-        self.number(entry)?;
-        Ok(())
+        self.number(entry);
     }
 
     /// Meets states.
-    pub(crate) fn visit(&mut self, states: &[u32]) -> Result<(), NoMemory>
+    pub(crate) fn visit(&mut self, states: &[u32])
         requires within { All (λ q. q < vec_len self.old.places) states.now }
         requires few { vec_len self.old.places ≤ 65536 }
         requires numbered { IsNumbered self.old.states.items self.old.places.items }
-        ensures states { OnOk result (self.new.states.items ≡ visit_all self.old.states.items states.now) }
-        ensures numbered { OnOk result (IsNumbered self.new.states.items self.new.places.items) }
+        ensures states { self.new.states.items ≡ visit_all self.old.states.items states.now }
+        ensures numbered { IsNumbered self.new.states.items self.new.places.items }
         ensures room { vec_len self.new.places ≡ vec_len self.old.places }
     {
         for state in states {
-            self.number(*state)?;
+            self.number(*state);
         }
-        Ok(())
     }
 
     /// Begins anew with the states that edges lead to.
-    pub(crate) fn begin_behind(&mut self, edges: &[Edge]) -> Result<(), NoMemory>
+    pub(crate) fn begin_behind(&mut self, edges: &[Edge])
         requires within { All (StaysWithin (vec_len self.old.places)) edges.now }
         requires few { vec_len self.old.places ≤ 65536 }
-        ensures states { OnOk result (self.new.states.items ≡ visit_all [] (near_states edges.now)) }
+        ensures states { self.new.states.items ≡ visit_all [] (near_states edges.now) }
         ensures room { vec_len self.new.places ≡ vec_len self.old.places }
     {
         self.states.clear();
         for edge in edges {
             if let Edge::Near(state) = *edge {
-                self.number(state)?;
+                self.number(state);
             }
         }
-        Ok(())
     }
 }

@@ -169,38 +169,33 @@ fn compare_from(piece: &Piece, shape: &Shape, best: &Best, states: &[u32], from:
     Ordering::Equal
 }
 
-/// How many steps a search makes before the rows of the states that it met are compared.
-const STEPS: usize = 8;
-
-/// How the outputs in the order from an entry compare with those in the best order. Breadth first, and only some steps
-/// further than they are the same and no bound decides.
+/// How the outputs in the order from an entry compare with those in the best order. Breadth first, and only as far as they
+/// are the same and no bound decides.
 pub(crate) fn compare_rows(
     piece: &Piece,
     shape: &Shape,
     best: &Best,
     entry: u32,
     order: &mut Order,
-) -> Result<Ordering, NoMemory>
+) -> Ordering
     requires component { IsComponent (component piece.now) }
     requires connected { IsStronglyConnected (component piece.now) }
     requires shape { IsShape (component piece.now) shape.now }
     requires best { IsBest (component piece.now) shape.now.highs.items best.now }
     requires entry { entry < piece.now.states }
     requires room { vec_len order.old.places ≡ piece.now.states }
-    ensures order { IfOk result (λ o. o ≡ slice_cmp nat_cmp (outputs_part (component piece.now) (states_in_order (component piece.now) entry)) (outputs_part (component piece.now) (states_in_order (component piece.now) best.now.entry))) }
+    ensures order { result ≡ slice_cmp nat_cmp (outputs_part (component piece.now) (states_in_order (component piece.now) entry)) (outputs_part (component piece.now) (states_in_order (component piece.now) best.now.entry)) }
     ensures room { vec_len order.new.places ≡ vec_len order.old.places }
 {
-    order.begin(entry)?;
+    order.begin(entry);
     let mut compared = 0;
     for next in 0..piece.states as usize {
-        if next % STEPS == 0 {
-            let verdict = compare_from(piece, shape, best, &order.states, compared);
-            let Ordering::Equal = verdict else {
-                return Ok(verdict);
-            };
-            compared = order.states.len();
-        }
-        visit_next(&shape.near, order, next)?;
+        let verdict = compare_from(piece, shape, best, &order.states, compared);
+        let Ordering::Equal = verdict else {
+            return verdict;
+        };
+        compared = order.states.len();
+        visit_next(&shape.near, order, next);
     }
-    Ok(compare_from(piece, shape, best, &order.states, compared))
+    Ordering::Equal
 }

@@ -13,7 +13,7 @@ use Rattle.pt_atoms.specs.declared.Normal.{Normal}
 use Rattle.pt_atoms.specs.declared.NormalKind.TheVariants.{Always}
 use Rattle.pt_atoms.specs.declared.Kind.{Kind}
 use Rattle.pt_atoms.specs.Atoms.{NormalSet, AtomSet}
-use Rattle.pt_formula.specs.Forms.{Term}
+use Rattle.pt_formula.specs.Forms.{Monomial}
 use Rattle.pt_atoms.specs.Tables.{IsAtomTable, ResidualsWithin, ResidualsAre}
 use Rattle.pt_formula.specs.Truth.{Tree, Atom, Solutions, free_variables}
 use Rattle.pt_formula.specs.Costs.{SameValue}
@@ -75,13 +75,13 @@ truth-set true = record { agrees = λ z count. (λ h. (count, tt), λ h. refl) }
 truth-set false = record { agrees = λ z count. (λ h. absurd (let bad : false ≡ true = h in cc), λ h. absurd h.1) }
 
 -- the normal form of an atom has the solutions over the variables of its terms
-pub atom-same : (kind : Kind) (terms : List Term) (constant : ℤ) (cs : List ℤ) (n : Normal) → cs ≡ map (λ t. t.1) terms → length n.coefficients ≡ length cs →
+pub atom-same : (kind : Kind) (terms : List Monomial) (constant : ℤ) (cs : List ℤ) (n : Normal) → cs ≡ map (λ t. t.1) terms → length n.coefficients ≡ length cs →
     SameSet (length cs) (NormalSet n) (AtomSet (record { kind = kind; coefficients = cs; constant = constant })) →
     SameSet (length terms) (Solutions (Atom kind terms constant)) (AtomSet (record { kind = kind; coefficients = map (λ t. t.1) terms; constant = constant })) →
     (length n.coefficients ≡ length (free_variables (Atom kind terms constant))) × SameSet (length (free_variables (Atom kind terms constant))) (NormalSet n) (Solutions (Atom kind terms constant))
 atom-same kind terms constant cs n is tracks form law =
-    let count : length cs ≡ length terms = ap length is ∙ length-map terms (λ (t : Term). t.1) in
-    let variables : length terms ≡ length (free_variables (Atom kind terms constant)) = sym (length-map terms (λ (t : Term). t.0)) in
+    let count : length cs ≡ length terms = ap length is ∙ length-map terms (λ (t : Monomial). t.1) in
+    let variables : length terms ≡ length (free_variables (Atom kind terms constant)) = sym (length-map terms (λ (t : Monomial). t.0)) in
     let there : SameSet (length terms) (NormalSet n) (AtomSet (record { kind = kind; coefficients = cs; constant = constant })) = subst (λ (j : ℕ). SameSet j (NormalSet n) (AtomSet (record { kind = kind; coefficients = cs; constant = constant }))) count form in
     let set : SameSet (length terms) (NormalSet n) (AtomSet (record { kind = kind; coefficients = map (λ t. t.1) terms; constant = constant })) =
     subst (λ (ds : List ℤ). SameSet (length terms) (NormalSet n) (AtomSet (record { kind = kind; coefficients = ds; constant = constant }))) is there in

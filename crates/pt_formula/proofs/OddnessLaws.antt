@@ -7,7 +7,7 @@ use Rattle.std.specs.Prelude.{ℤ, pos, negsuc, ◌+ℤ◌, ◌*ℤ◌, unsigned
 use Rattle.std.specs.List.{AllByRecursion, list_any}
 use Rattle.pt_atoms.specs.Atoms.{Compares}
 use Rattle.pt_atoms.specs.Sums.{Congruent}
-use Rattle.pt_formula.specs.Forms.{Term}
+use Rattle.pt_formula.specs.Forms.{Monomial}
 use Rattle.pt_formula.specs.Values.{terms_value}
 use Rattle.pt_formula.specs.Truth.{Tree, True, False, Atom, Not, And, Or, Iff, Xor, Exists, Holds, Solutions, updated, free_variables, valuation}
 use Rattle.pt_formula.specs.Oddness.{is_odd, truth_tree, AsksOddness, Agree, AgreeUpToOddness, AgreeUpToOddnessAt}
@@ -52,7 +52,7 @@ module _ (is_truth : ℕ → Bool) where
   agree_updated : (f g : ℕ → ℤ) (v : ℕ) (k : ℤ) → AgreeUpToOddness is_truth f g → AgreeUpToOddness is_truth (updated f v k) (updated g v k)
   agree_updated f g v k h u = agree_at (u == v) v k f g u (h u)
 
-  same_sum : (f g : ℕ → ℤ) → AgreeUpToOddness is_truth f g → (ts : List Term) → list_any (λ t. is_truth t.0) ts ≡ false → terms_value f ts ≡ terms_value g ts
+  same_sum : (f g : ℕ → ℤ) → AgreeUpToOddness is_truth f g → (ts : List Monomial) → list_any (λ t. is_truth t.0) ts ≡ false → terms_value f ts ≡ terms_value g ts
   same_sum f g e [] h = refl
   same_sum f g e (t ∷ ts) h =
       let (none, rest) = or_parts (is_truth t.0) (list_any (λ t. is_truth t.0) ts) h in

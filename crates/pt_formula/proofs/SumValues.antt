@@ -4,7 +4,7 @@ use Rattle.std.proofs.lemmas.Int.{ints}
 use Rattle.std.specs.Prelude.{ℤ, pos, negsuc, ◌+ℤ◌, ◌-ℤ◌, ◌*ℤ◌}
 use Rattle.pt_formula.proofs.Products.{mul_add, add_mul, mul_assoc, mul_zero, zero_mul}
 use Rattle.pt_formula.specs.declared.form.Form.{Form}
-use Rattle.pt_formula.specs.Forms.{Term}
+use Rattle.pt_formula.specs.Forms.{Monomial}
 use Rattle.pt_formula.specs.Values.{terms_value}
 use Rattle.pt_formula.specs.Sums.{term_list, add_term, sum_terms, scale_terms, form_sum, form_scale, form_difference, form_value}
 use Rattle.pt_formula.proofs.TermSums.{zero_or_not, append_none, add_less, add_past, add_same}
@@ -28,7 +28,7 @@ with_constants a b c d y e = omega (arith, ints, e)
 taken : (x y : ℤ) → x +ℤ negsuc 0 *ℤ y ≡ x -ℤ y
 taken x y = omega (arith, ints)
 
-value_list : (values : ℕ → ℤ) (t : Term) (ts : List Term) → terms_value values (term_list t ++ ts) ≡ t.1 *ℤ values t.0 +ℤ terms_value values ts
+value_list : (values : ℕ → ℤ) (t : Monomial) (ts : List Monomial) → terms_value values (term_list t ++ ts) ≡ t.1 *ℤ values t.0 +ℤ terms_value values ts
 value_list values t ts =
     elim (zero_or_not t.1) [
       | inl p ↦
@@ -37,7 +37,7 @@ value_list values t ts =
       | inr q ↦ ap (λ b. terms_value values ((if b then [] else t ∷ []) ++ ts)) q
     ]
 
-value_add : (values : ℕ → ℤ) (t : Term) (us : List Term) → terms_value values (add_term t us) ≡ t.1 *ℤ values t.0 +ℤ terms_value values us
+value_add : (values : ℕ → ℤ) (t : Monomial) (us : List Monomial) → terms_value values (add_term t us) ≡ t.1 *ℤ values t.0 +ℤ terms_value values us
 value_add values t [] = ap (terms_value values) (sym (append_none (term_list t))) ∙ value_list values t []
 value_add values t (u ∷ us) =
     let cases : (t.0 < u.0) ⊎ ((t.0 ≡ u.0) ⊎ (u.0 < t.0)) = grind arith in
@@ -54,13 +54,13 @@ value_add values t (u ∷ us) =
       ]
     ]
 
-value_sum : (values : ℕ → ℤ) (ts us : List Term) → terms_value values (sum_terms ts us) ≡ terms_value values ts +ℤ terms_value values us
+value_sum : (values : ℕ → ℤ) (ts us : List Monomial) → terms_value values (sum_terms ts us) ≡ terms_value values ts +ℤ terms_value values us
 value_sum values [] us = none_added (pos 0) (terms_value values us) refl
 value_sum values (t ∷ ts) us =
     value_add values t (sum_terms ts us)
     ∙ grouped (t.1 *ℤ values t.0) (terms_value values ts) (terms_value values us) (terms_value values (sum_terms ts us)) (value_sum values ts us)
 
-value_scale : (values : ℕ → ℤ) (k : ℤ) (us : List Term) → terms_value values (scale_terms k us) ≡ k *ℤ terms_value values us
+value_scale : (values : ℕ → ℤ) (k : ℤ) (us : List Monomial) → terms_value values (scale_terms k us) ≡ k *ℤ terms_value values us
 value_scale values k [] = sym (mul_zero k)
 value_scale values k (u ∷ us) =
     value_list values (u.0, k *ℤ u.1) (scale_terms k us)

@@ -5,7 +5,7 @@ use Rattle.std.specs.Prelude.{ℤ, ◌+ℤ◌, ◌*ℤ◌}
 use Rattle.std.specs.List.{AllByRecursion}
 use Rattle.pt_atoms.specs.Atoms.{Compares}
 use Rattle.pt_atoms.specs.Sums.{dot}
-use Rattle.pt_formula.specs.Forms.{Term, IsIncreasing}
+use Rattle.pt_formula.specs.Forms.{Monomial, IsIncreasing}
 use Rattle.pt_formula.specs.Values.{terms_value}
 use Rattle.pt_formula.specs.Truth.{Tree, True, False, Atom, Not, And, Or, Iff, Xor, Exists, Holds, updated, insert_var, union, without, free_variables, valuation}
 
@@ -68,7 +68,7 @@ agree_back : (f g : ℕ → ℤ) (vs : List ℕ) → Agree f g vs → Agree g f 
 agree_back f g [] h = tt
 agree_back f g (v ∷ vs) h = (sym h.0, agree_back f g vs h.1)
 
-pub same_sum : (f g : ℕ → ℤ) (ts : List Term) → Agree f g (map (λ t. t.0) ts) → terms_value f ts ≡ terms_value g ts
+pub same_sum : (f g : ℕ → ℤ) (ts : List Monomial) → Agree f g (map (λ t. t.0) ts) → terms_value f ts ≡ terms_value g ts
 same_sum f g [] h = refl
 same_sum f g (t ∷ ts) h = ap (λ x. t.1 *ℤ x +ℤ terms_value f ts) h.0 ∙ ap (λ s. t.1 *ℤ g t.0 +ℤ s) (same_sum f g ts h.1)
 
@@ -128,7 +128,7 @@ later v x vs z (u ∷ us) h =
     (ap (λ b. if b then x else valuation vs z u) there, later v x vs z us h.1)
 
 -- the sum of terms at a vector over their variables is that of the coefficients and the vector
-pub sum_at : (ts : List Term) (z : List ℤ) → IsIncreasing (map (λ t. t.0) ts) → length z ≡ length ts → terms_value (valuation (map (λ t. t.0) ts) z) ts ≡ dot (map (λ t. t.1) ts) z
+pub sum_at : (ts : List Monomial) (z : List ℤ) → IsIncreasing (map (λ t. t.0) ts) → length z ≡ length ts → terms_value (valuation (map (λ t. t.0) ts) z) ts ≡ dot (map (λ t. t.1) ts) z
 sum_at [] z h e = refl
 sum_at (t ∷ ts) [] h e = absurd (omega (arith, e))
 sum_at (t ∷ ts) (x ∷ z) h e =

@@ -2,13 +2,13 @@
 use Rattle.std.specs.Prelude.{ℕ, ◌≡◌, ◌↔◌, ◌⊎◌, ◌==◌, nat_lt, not, if◌then◌else◌, List, [], ◌∷◌, length, map, filter, ℤ, pos, ⊤}
 use Rattle.pt_atoms.specs.declared.Kind.{Kind}
 use Rattle.pt_atoms.specs.Atoms.{Compares}
-use Rattle.pt_formula.specs.Forms.{Term}
+use Rattle.pt_formula.specs.Forms.{Monomial}
 use Rattle.pt_formula.specs.Values.{terms_value}
 
 pub data Tree : Type 0 where
   True : Tree
   False : Tree
-  Atom : Kind → List Term → ℤ → Tree
+  Atom : Kind → List Monomial → ℤ → Tree
   Not : Tree → Tree
   And : Tree → Tree → Tree
   Or : Tree → Tree → Tree

@@ -5,7 +5,7 @@ ghost use Rattle.std.specs.List.{AllByRecursion};
 ghost use Rattle.pt_atoms.specs.declared.Kind.{Kind as KindValue};
 ghost use Rattle.pt_atoms.specs.Atoms.{AtomSet};
 ghost use Rattle.pt_sets.specs.Sets.{SameSet};
-ghost use Rattle.pt_formula.specs.Forms.{Term, IsIncreasing, AreTerms};
+ghost use Rattle.pt_formula.specs.Forms.{Monomial, IsIncreasing, AreTerms};
 ghost use Rattle.pt_formula.specs.declared.form.Form.{Form as FormValue};
 ghost use Rattle.pt_formula.specs.Sums.{form_sum, form_difference, form_scale, form_value};
 ghost use Rattle.pt_formula.specs.Truth.{Tree, Atom as AtomTree, Exists as ExistsTree, Holds, Solutions, Widened, free_variables, valuation, updated};
@@ -41,7 +41,7 @@ pub fn widening_puts_no_condition_on_added_variables()
 
 /// The solutions of an atom are its set over its variables, one track for each term.
 pub fn solutions_of_an_atom_are_its_set()
-    ensures { (kind : KindValue) (terms : List Term) (constant : ℤ) → IsIncreasing (map (λ t. t.0) terms) → SameSet (length terms) (Solutions (AtomTree kind terms constant)) (AtomSet (record { kind = kind; coefficients = map (λ t. t.1) terms; constant = constant })) }
+    ensures { (kind : KindValue) (terms : List Monomial) (constant : ℤ) → IsIncreasing (map (λ t. t.0) terms) → SameSet (length terms) (Solutions (AtomTree kind terms constant)) (AtomSet (record { kind = kind; coefficients = map (λ t. t.1) terms; constant = constant })) }
 {}
 
 /// The value of a sum, a difference or a multiple of forms is the sum, the difference or the multiple of their values.

@@ -10,7 +10,7 @@ use Rattle.pt_atoms.specs.Atoms.{Compares, IsModulus}
 use Rattle.pt_formula.specs.declared.node.Node.TheVariants as node
 use Rattle.pt_formula.specs.declared.node.Position.{Position}
 use Rattle.pt_formula.specs.declared.form.Form.{Form}
-use Rattle.pt_formula.specs.Forms.{Term, AreTerms, is_zero}
+use Rattle.pt_formula.specs.Forms.{Monomial, AreTerms, is_zero}
 use Rattle.pt_formula.specs.Formulas.{IsFormula, tree_of, node_tree, truth_node}
 use Rattle.pt_formula.specs.Sums.{fits, form_difference, form_scale, form_value}
 use Rattle.pt_formula.specs.Truth.{Tree, Holds}
@@ -68,7 +68,7 @@ below-iff : (s c x y : ℤ) → s +ℤ c ≡ x -ℤ y → (s ≤ℤ (neg_ℤ c -
 below-iff s c x y e = (λ h. omega (arith, ints, e, h), λ h. omega (arith, ints, e, h))
 
 module _ (laws : NodeLaws) where
-  atom-means : (at : Position) (kind : Kind) (ts : List Term) (c : ℤ) (f g : NodeList) (i : ℕ) → IsFormula f → AreTerms ts → IsModulus kind → atom at kind ts c f ≡ Ok (i, g) → Means f g i (λ values. Compares kind (terms_value values ts) c)
+  atom-means : (at : Position) (kind : Kind) (ts : List Monomial) (c : ℤ) (f g : NodeList) (i : ℕ) → IsFormula f → AreTerms ts → IsModulus kind → atom at kind ts c f ≡ Ok (i, g) → Means f g i (λ values. Compares kind (terms_value values ts) c)
   atom-means at kind [] c f g i h terms modulus e =
       means-same f g i (Holds (node_tree (tree_of f) (truth_node (zero_compares kind c)))) (λ values. Compares kind (pos 0) c)
       (λ values. let p = truth-holds (tree_of f) (zero_compares kind c) values in let q = zero-compares kind c modulus in (λ x. q.0 (p.0 x), λ x. p.1 (q.1 x)))

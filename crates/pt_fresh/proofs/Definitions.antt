@@ -8,7 +8,7 @@ use Rattle.std.specs.List.{AllByRecursion}
 use Rattle.pt_formula.specs.declared.node.Node.TheVariants as node
 use Rattle.pt_formula.specs.declared.node.Position.{Position}
 use Rattle.pt_formula.specs.declared.form.Form.{Form}
-use Rattle.pt_formula.specs.Forms.{Term, AreTerms}
+use Rattle.pt_formula.specs.Forms.{Monomial, AreTerms}
 use Rattle.pt_formula.specs.Formulas.{IsFormula, tree_of, contains}
 use Rattle.pt_formula.specs.Sums.{form_difference, form_scale, form_value}
 use Rattle.pt_formula.specs.Truth.{Tree, Holds, updated}
@@ -41,10 +41,10 @@ unaffected values v k (u ∷ us) h =
     let (first, rest) = or_parts (v == u) (contains v us) h in
     (updated-other values v u k first, unaffected values v k us rest)
 
-terms-unaffected : (values : ℕ → ℤ) (v : ℕ) (k : ℤ) (ts : List Term) → contains v (map (λ t. t.0) ts) ≡ false → terms_value (updated values v k) ts ≡ terms_value values ts
+terms-unaffected : (values : ℕ → ℤ) (v : ℕ) (k : ℤ) (ts : List Monomial) → contains v (map (λ t. t.0) ts) ≡ false → terms_value (updated values v k) ts ≡ terms_value values ts
 terms-unaffected values v k [] h = refl
 terms-unaffected values v k (t ∷ ts) h =
-    let (first, rest) = or_parts (v == t.0) (contains v (map (λ (t : Term). t.0) ts)) h in
+    let (first, rest) = or_parts (v == t.0) (contains v (map (λ (t : Monomial). t.0) ts)) h in
     ap (λ x. t.1 *ℤ x +ℤ terms_value (updated values v k) ts) (updated-other values v t.0 k first)
     ∙ ap (λ s. t.1 *ℤ values t.0 +ℤ s) (terms-unaffected values v k ts rest)
 

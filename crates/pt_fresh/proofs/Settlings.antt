@@ -7,7 +7,7 @@ use Rattle.pt_formula.specs.declared.node.Node.TheVariants as node
 use Rattle.pt_formula.specs.declared.node.Position.{Position}
 use Rattle.pt_formula.specs.Formulas.{IsFormula, made, tree_of, variables_of, contains}
 use Rattle.pt_formula.specs.Sums.{form_value}
-use Rattle.pt_formula.specs.Forms.{Term as Pair}
+use Rattle.pt_formula.specs.Forms.{Monomial as Pair}
 use Rattle.pt_formula.specs.Truth.{Tree, Holds, updated, free_variables}
 use Rattle.pt_formula.specs.Values.{terms_value}
 use Rattle.pt_fresh.specs.declared.fault.TermFault.{TermFault}

@@ -6,7 +6,7 @@ use Rattle.pt_atoms.specs.declared.Kind.TheVariants.{Eq, Le, Mod}
 use Rattle.pt_formula.specs.declared.node.Node.TheVariants.{Atom}
 use Rattle.pt_formula.specs.declared.node.Position.{Position}
 use Rattle.pt_formula.specs.declared.form.Form.{Form}
-use Rattle.pt_formula.specs.Forms.{Term, is_zero}
+use Rattle.pt_formula.specs.Forms.{Monomial, is_zero}
 use Rattle.pt_formula.specs.Formulas.{truth_node}
 use Rattle.pt_formula.specs.Sums.{fits, form_difference}
 use Rattle.pt_fresh.specs.declared.Relation.{Relation}
@@ -21,7 +21,7 @@ zero_compares Le c = int_le (pos 0) c
 zero_compares (Mod m) c = is_zero (int_rem_euclid c (pos m))
 
 -- an atom, but True or False without variables
-abbrev pub atom : Position → Kind → List Term → ℤ → Make ℕ
+abbrev pub atom : Position → Kind → List Monomial → ℤ → Make ℕ
 atom at kind [] c = make (truth_node (zero_compares kind c)) at
 atom at kind (t ∷ ts) c = if fits c then make (Atom kind (t ∷ ts) c) at else refuse Coefficient
 

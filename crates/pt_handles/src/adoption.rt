@@ -157,18 +157,10 @@ fn adopt_part<I: Interner>(
         Ok(code) => code,
         Err(_) => return Err(StoreFault::NoMemory),
     };
-    each_code_has_a_home(pass);
     let place = match store.intern(alloc, pass, code) {
         Ok(place) => place,
         Err(fault) => return Err(fault),
     };
     place_part(targets, part, place, &coded);
     Ok(())
-}
-
-/// The home of each code is one of the shards.
-fn each_code_has_a_home<P: Codes>(pass: &P)
-    ensures { (code : List ℕ) → P.home code (length (P.lists pass.now)) < length (P.lists pass.now) }
-{
-    let _shards = pass.shards();
 }

@@ -7,7 +7,7 @@ use Rattle.pt_formula.specs.declared.node.Node.{Node}
 use Rattle.pt_formula.specs.declared.node.Position.{Position}
 use Rattle.pt_formula.specs.declared.TheConstants.{MAX_TRACKS, MAX_NODES}
 use Rattle.pt_formula.specs.declared.fault.FormulaFault.TheVariants as fault
-use Rattle.pt_formula.specs.Forms.{Term}
+use Rattle.pt_formula.specs.Forms.{Monomial}
 use Rattle.pt_formula.specs.Truth.{free_variables}
 use Rattle.pt_formula.specs.Formulas.{node_tree, tree_of, variables_of}
 use Rattle.pt_syntax.specs.declared.kinds.ReadKind.{ReadKind}
@@ -105,7 +105,7 @@ symbols-in s w V h (x ∷ xs) all in-s in-v = (by-use x.stands_for refl all.0.1,
     over P R [] f k = tt
     over P R (u ∷ us) f k = (f u k.0, over P R us f k.1)
 
-    terms : (P : ℕ → Type 0) (ts : List Term) → AllByRecursion P (map (λ (t : Term). t.0) ts) → AllByRecursion (λ (t : Term). P t.0) ts
+    terms : (P : ℕ → Type 0) (ts : List Monomial) → AllByRecursion P (map (λ (t : Monomial). t.0) ts) → AllByRecursion (λ (t : Monomial). P t.0) ts
     terms P [] k = tt
     terms P (t ∷ ts) k = (k.0, terms P ts k.1)
 
@@ -113,7 +113,7 @@ symbols-in s w V h (x ∷ xs) all in-s in-v = (by-use x.stands_for refl all.0.1,
     wider ps v k = elim k [ inl d ↦ inr d | inr d ↦ inl (in-v v (any-constant x.level v s.symbols d)) ]
 
     by-meaning : (ps : List ℕ) (m : Meaning) → IsMeaning s m → AllByRecursion (λ v. ContainsByRecursion v ps ⊎ IsConstantUpTo x.level s.symbols v) (free_of s m) → MeaningIn (λ v. V v ⊎ ContainsByRecursion v ps) w.formula m (length s.formula)
-    by-meaning ps (Int f) range free = terms (λ v. V v ⊎ ContainsByRecursion v ps) f.terms (over (λ v. ContainsByRecursion v ps ⊎ IsConstantUpTo x.level s.symbols v) (λ v. V v ⊎ ContainsByRecursion v ps) (map (λ (t : Term). t.0) f.terms) (wider ps) free)
+    by-meaning ps (Int f) range free = terms (λ v. V v ⊎ ContainsByRecursion v ps) f.terms (over (λ v. ContainsByRecursion v ps ⊎ IsConstantUpTo x.level s.symbols v) (λ v. V v ⊎ ContainsByRecursion v ps) (map (λ (t : Monomial). t.0) f.terms) (wider ps) free)
     by-meaning ps (Truth i) range free = (range, subst (AllByRecursion (λ v. V v ⊎ ContainsByRecursion v ps)) (sym (old-variables s w h i range)) (over (λ v. ContainsByRecursion v ps ⊎ IsConstantUpTo x.level s.symbols v) (λ v. V v ⊎ ContainsByRecursion v ps) (variables_of s.formula i) (wider ps) free))
 
     by-use : (u : Use) → x.stands_for ≡ u → IsUseSound s x.level u → UseIn V w.formula u (length s.formula)

@@ -6,7 +6,7 @@ use Rattle.std.specs.List.{AllByRecursion}
 use Rattle.pt_sets.specs.Elements.{ContainsByRecursion}
 use Rattle.pt_formula.specs.declared.node.Node.TheVariants as node
 use Rattle.pt_formula.specs.declared.node.Position.{Position}
-use Rattle.pt_formula.specs.Forms.{Term, IsIncreasing}
+use Rattle.pt_formula.specs.Forms.{Monomial, IsIncreasing}
 use Rattle.pt_formula.specs.Formulas.{node_at, entry_node, variables_of}
 use Rattle.pt_syntax.specs.declared.sexpr.SExpr.{SExpr}
 use Rattle.pt_syntax.specs.declared.kinds.ReadKind.TheVariants.{Redeclared, Sort}
@@ -190,7 +190,7 @@ all-unbound s w low high binds (v ∷ vs) h k = (unbound s w low high binds v h.
 free-in : (s : State) (w : Work) (V R : ℕ → Type 0) → ((v : ℕ) → V v → R v) → (m : Meaning) (n : ℕ) → MeaningIn V w.formula m n → AllByRecursion R (free_of (with_work w s) m)
 free-in s w V R wider (Int f) n h = terms f.terms h
   where
-    terms : (ts : List Term) → AllByRecursion (λ (t : Term). V t.0) ts → AllByRecursion R (map (λ (t : Term). t.0) ts)
+    terms : (ts : List Monomial) → AllByRecursion (λ (t : Monomial). V t.0) ts → AllByRecursion R (map (λ (t : Monomial). t.0) ts)
     terms [] k = tt
     terms (t ∷ ts) k = (wider t.0 k.0, terms ts k.1)
 free-in s w V R wider (Truth i) n h = over (variables_of w.formula i) h.1

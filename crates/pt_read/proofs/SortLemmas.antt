@@ -1,7 +1,7 @@
 -- Sorts of variables stay while more are given out.
 use Rattle.std.proofs.Common.{◌≡◌, ◌≢◌, ℕ, zero, suc, ◌<◌, ◌≤◌, Bool, true, false, ◌&&◌, List, [], ◌∷◌, ◌++◌, length, arith, refl, sym, ap, subst, length-append}
 use Rattle.std.proofs.lemmas.Option.{slice_get_within}
-use Rattle.pt_formula.specs.Forms.{Term}
+use Rattle.pt_formula.specs.Forms.{Monomial}
 use Rattle.pt_terms.specs.declared.meaning.Sort.{Sort}
 use Rattle.pt_terms.specs.declared.meaning.Sort.TheVariants as sort
 use Rattle.pt_terms.specs.Sorts.{HasSort, HaveSorts, AreIntegers, same_sort, same_sorts}
@@ -55,7 +55,7 @@ have-last given [] (s ∷ ts) v t h k = absurd h
 have-last given (u ∷ vs) [] v t h k = absurd h
 have-last given (u ∷ vs) (s ∷ ts) v t h k = (h.0, have-last given vs ts v t h.1 k)
 
-pub integers-more : (old new : List Sort) (ts : List Term) → Longer old new → AreIntegers old ts → AreIntegers new ts
+pub integers-more : (old new : List Sort) (ts : List Monomial) → Longer old new → AreIntegers old ts → AreIntegers new ts
 integers-more old new [] h k = tt
 integers-more old new (t ∷ ts) h k = (has-more old new t.0 sort.Int h k.0, integers-more old new ts h k.1)
 

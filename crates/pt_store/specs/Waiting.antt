@@ -1,12 +1,18 @@
--- Passes that wait show lists within the limit.
+-- What the lists of passes show.
 use Rattle.std.proofs.Common.{◌≡◌, ℕ, ◌<◌, ◌≤◌, List, [], ◌∷◌, All, length, get_or, sym, subst}
 use Rattle.std.proofs.Math.Nat.{not-suc-le-zero, zero-lt-suc, lt_irrefl}
 use Rattle.std.proofs.lemmas.List.{get_or-map, length-map}
 use Rattle.pt_sets.specs.Lists.{IsWithin}
 use Rattle.pt_turns.specs.Turns.{LockName}
-use Rattle.pt_store.specs.Shared.{AtEach, Waits, lists_of}
+use Rattle.pt_store.specs.Shared.{AtEach, Locks, AreLocks, Waits, lists_of}
 use Rattle.pt_store.specs.declared.shard_turn.ShardPass.{ShardPass}
 
+-- there is a list where there is a lock
+pub lists-some : (P : LockName → ShardPass → Type 0) (store : Locks) (passes : List ShardPass) → AreLocks store → AtEach P store.locks passes → 0 < length (lists_of passes)
+lists-some P store passes locks each =
+    subst (λ (n : ℕ). 0 < n) (sym (length-map passes (λ (p : ShardPass). p.list))) (subst (λ (n : ℕ). 0 < n) (sym each.count) locks.some_shard)
+
+-- passes that wait show lists within the limit
 pub waiting-within : (limit : ℕ) (locks : List LockName) (passes : List ShardPass) → AtEach Waits locks passes → All (λ (lock : LockName). lock.limit ≡ limit) locks → IsWithin limit (lists_of passes)
 waiting-within limit locks [] each limits shard codes within = absurd (not-suc-le-zero within)
 waiting-within limit [] (pass ∷ passes) each limits shard codes within = absurd (lt_irrefl 0 (subst (λ (n : ℕ). 0 < n) each.count (zero-lt-suc (length passes))))

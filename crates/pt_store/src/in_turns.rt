@@ -3,8 +3,8 @@ ghost use Rattle.std.specs.Prelude.{◌≡◌, IfOk, IfErr, IfSome, IfNone, OnEr
 ghost use Rattle.std.specs.Arc.{arc_value};
 ghost use Rattle.pt_sets.specs.Lists.{find, Extends};
 ghost use Rattle.pt_store.specs.Interning.{one_more, ChangesOnly, IsLast, RefusesFull};
-ghost use Rattle.pt_store.specs.Shared.{OwnsWaiting, lists_of};
-ghost use Rattle.pt_store.specs.Waiting.{waiting-within};
+ghost use Rattle.pt_store.specs.Shared.{OwnsWaiting, Waits, lists_of};
+ghost use Rattle.pt_store.specs.Waiting.{lists-some, waiting-within};
 
 use crate::fault::{JoinRefused, NoMemory, StoreFault};
 use crate::shared::{SharedPass, SharedStore};
@@ -48,6 +48,8 @@ impl<'a, R: Wait + Sync, S: Spread + Send + Sync> Interner for InTurns<'a, R, S>
     ghost owns = { OwnsWaiting };
 
     ghost within = { λ store pass h. waiting-within store.limit store.locks pass.shards h.each h.locks.limits };
+
+    ghost some = { λ store pass h. lists-some Waits store pass.shards h.locks h.each };
 
     fn limit(&self) -> u32 {
         self.store.limit()

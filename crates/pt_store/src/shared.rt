@@ -5,6 +5,7 @@ ghost use Rattle.pt_sets.specs.Lists.{find, Extends, IsWithin};
 ghost use Rattle.pt_store.specs.Interning.{one_more, joint, ChangesOnly, IsLast, Joins, RefusesFull};
 ghost use Rattle.pt_store.specs.Local.{IsPushed};
 ghost use Rattle.pt_store.specs.Shared.{AtEach, Waits, Held, AreLocks, OwnsWaiting, OwnsHeld, lists_of};
+ghost use Rattle.pt_store.specs.Waiting.{lists-some};
 
 use crate::fault::{JoinRefused, NoMemory, StoreFault};
 use crate::hashed::HashedCode;
@@ -376,6 +377,8 @@ impl<S: Spread + Send> Interner for SharedStore<S> {
     ghost owns = { OwnsHeld };
 
     ghost within = { λ store pass h. h.within };
+
+    ghost some = { λ store pass h. lists-some Held store pass.shards h.locks h.each };
 
     fn limit(&self) -> u32 {
         self.limit

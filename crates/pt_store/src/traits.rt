@@ -103,6 +103,9 @@ pub trait Interner {
 
     /// No list of a pass is longer than the limit.
     ghost within: { (store : Self) (pass : Self.Pass) → owns store pass → IsWithin (limit_of store) (Self.Pass.lists pass) };
+
+    /// A pass has the list of a shard.
+    ghost some: { (store : Self) (pass : Self.Pass) → owns store pass → 0 < length (Self.Pass.lists pass) };
 }
 
 /// A store whose passes can be split and joined. It is shared between threads, each with a pass of its own.

@@ -10,7 +10,7 @@ use Rattle.pt_formula.specs.declared.form.Form.{Form}
 use Rattle.pt_formula.specs.declared.fault.FormulaFault.{FormulaFault}
 use Rattle.pt_atoms.specs.declared.Kind.{Kind}
 use Rattle.pt_atoms.specs.declared.Kind.TheVariants.{Eq, Le, Mod}
-use Rattle.pt_formula.specs.Forms.{Term}
+use Rattle.pt_formula.specs.Forms.{Monomial}
 use Rattle.pt_formula.specs.Formulas.{made, made_exists, node_at, truth_node}
 use Rattle.pt_formula.specs.Sums.{fits, fits_form, has_few_terms, form_sum, form_difference, form_scale}
 use Rattle.pt_syntax.specs.declared.kinds.ReadKind.{ReadKind}
@@ -134,7 +134,7 @@ adds-choice p c a b =
     (λ left. adds-on 0 (make (node.Not c) p) (λ n. make (node.And n b) p >>= λ right. make (node.Or left right) p) (adds-make (node.Not c) p)
     (λ n. adds-on 0 (make (node.And n b) p) (λ right. make (node.Or left right) p) (adds-make (node.And n b) p) (λ right. adds-make (node.Or left right) p)))
 
-pub adds-atom : (p : Position) (kind : Kind) (ts : List Term) (c : ℤ) → AddsAtMost 0 (Theory.atom p kind ts c)
+pub adds-atom : (p : Position) (kind : Kind) (ts : List Monomial) (c : ℤ) → AddsAtMost 0 (Theory.atom p kind ts c)
 adds-atom p kind [] c = adds-make (truth_node (Theory.zero_compares kind c)) p
 adds-atom p kind (t ∷ ts) c = by (fits c)
   where
@@ -271,13 +271,13 @@ adds-divides p n (a ∷ b ∷ more) = adds-refuse 0 Sort p
 
 -- ---- applications of definitions
 
-adds-substituted : (p : Position) (rs : List (ℕ × Meaning)) (f : Form) (ts : List Term) → AddsAtMost 0 (Theory.substituted p rs f ts)
+adds-substituted : (p : Position) (rs : List (ℕ × Meaning)) (f : Form) (ts : List Monomial) → AddsAtMost 0 (Theory.substituted p rs f ts)
 adds-substituted p rs f [] = adds-give 0 f
 adds-substituted p rs f (t ∷ ts) =
     adds-on 0 (form (form_scale t.1 (Theory.replacing rs t.0)) p) (λ g. form (form_sum f g) p >>= λ h. Theory.substituted p rs h ts) (adds-form (form_scale t.1 (Theory.replacing rs t.0)) p)
     (λ g. adds-on 0 (form (form_sum f g) p) (λ h. Theory.substituted p rs h ts) (adds-form (form_sum f g) p) (λ h. adds-substituted p rs h ts))
 
-adds-copied-atom : (p : Position) (rs : List (ℕ × Meaning)) (kind : Kind) (ts : List Term) (c : ℤ) (o : Option ℕ) → AddsAtMost 0 (Theory.copied_atom p rs kind ts c o)
+adds-copied-atom : (p : Position) (rs : List (ℕ × Meaning)) (kind : Kind) (ts : List Monomial) (c : ℤ) (o : Option ℕ) → AddsAtMost 0 (Theory.copied_atom p rs kind ts c o)
 adds-copied-atom p rs kind ts c (Some i) = adds-give 0 i
 adds-copied-atom p rs kind ts c None =
     adds-on 0 (Theory.substituted p rs (constant_form (pos 0)) ts) (λ g. Theory.atom p kind g.terms (Theory.new_constant kind (c -ℤ g.constant))) (adds-substituted p rs (constant_form (pos 0)) ts)

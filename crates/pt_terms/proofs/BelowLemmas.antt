@@ -11,7 +11,7 @@ use Rattle.pt_formula.specs.declared.Op.{Op}
 use Rattle.pt_formula.specs.declared.Op.TheVariants as op
 use Rattle.pt_formula.specs.declared.fault.FormulaFault.{FormulaFault}
 use Rattle.pt_formula.specs.declared.fault.FormulaFault.TheVariants.{Tracks, Nodes, NoMemory}
-use Rattle.pt_formula.specs.Forms.{Term}
+use Rattle.pt_formula.specs.Forms.{Monomial}
 use Rattle.std.proofs.lemmas.List.{append-nil}
 use Rattle.pt_formula.specs.Truth.{insert_var, union, without, free_variables}
 use Rattle.pt_formula.specs.Formulas.{node_at, entry_node, children, node_tree, tree_of, variables_of, op_node, truth_node, contains, made, made_exists, Builds, IsFormula}
@@ -62,7 +62,7 @@ all_without : (P : ℕ → Type 0) (v : ℕ) (us : List ℕ) → AllByRecursion 
 all_without P v [] h = tt
 all_without P v (u ∷ us) h = elim (not (v == u)) as (λ b. AllByRecursion P (cond b (u ∷ without v us) (without v us))) [ true ↦ (h.0, all_without P v us h.1) | false ↦ all_without P v us h.1 ]
 
-pub all_terms : (given : ℕ) (ts : List Term) → AreTermsBelow given ts → AllByRecursion (λ v. v < given) (map (λ (t : Term). t.0) ts)
+pub all_terms : (given : ℕ) (ts : List Monomial) → AreTermsBelow given ts → AllByRecursion (λ v. v < given) (map (λ (t : Monomial). t.0) ts)
 all_terms given [] h = tt
 all_terms given (t ∷ ts) h = (h.0, all_terms given ts h.1)
 

@@ -8,7 +8,7 @@ use Rattle.pt_formula.specs.declared.node.Node.{Node}
 use Rattle.pt_formula.specs.declared.node.Node.TheVariants as node
 use Rattle.pt_formula.specs.declared.node.Position.{Position}
 use Rattle.pt_formula.specs.declared.form.Form.{Form}
-use Rattle.pt_formula.specs.Forms.{Term}
+use Rattle.pt_formula.specs.Forms.{Monomial}
 use Rattle.pt_formula.specs.Sums.{form_sum, form_scale}
 use Rattle.pt_formula.specs.Truth.{insert_var, union, without, free_variables}
 use Rattle.pt_formula.specs.Formulas.{node_at, entry_node, children, node_tree, tree_of, variables_of}
@@ -30,7 +30,7 @@ use Rattle.pt_terms.specs.Free.{Nodes, IsFront, BindsIn, Grown, IsWhole, FreeIn,
 abbrev Replaces : (ℕ → Type 0) → (ℕ → Type 0) → List (ℕ × Meaning) → Type 0
 Replaces U V rs = (v : ℕ) → U v → FormIn V (Theory.replacing rs v) 0
 
-good-substituted : (F : Nodes) (U V Q : ℕ → Type 0) (p : Position) (rs : List (ℕ × Meaning)) → Replaces U V rs → (f : Form) (ts : List Term) → AllByRecursion (λ (t : Term). U t.0) ts → Good F Q (FormIn V f) (FormIn V) (Theory.substituted p rs f ts)
+good-substituted : (F : Nodes) (U V Q : ℕ → Type 0) (p : Position) (rs : List (ℕ × Meaning)) → Replaces U V rs → (f : Form) (ts : List Monomial) → AllByRecursion (λ (t : Monomial). U t.0) ts → Good F Q (FormIn V f) (FormIn V) (Theory.substituted p rs f ts)
 good-substituted F U V Q p rs re f [] h = good-give F Q (FormIn V f) (FormIn V) f (λ n c. c)
 good-substituted F U V Q p rs re f (t ∷ ts) h =
     good-then F Q (FormIn V f) (FormIn V f) (FormIn V) (FormIn V) (form (form_scale t.1 (Theory.replacing rs t.0)) p) (λ g. form (form_sum f g) p >>= λ k. Theory.substituted p rs k ts) (form-lasts V f) (λ n c. c)
@@ -60,11 +60,11 @@ replaces V S (r ∷ rs) h v s = by-name (replaces V (λ u. S u × ((r.0 ≡ u) �
     ps : List ℕ
     ps = map (λ (r : ℕ × Meaning). r.0) rs
 
-    widen : (ts : List Term) → AllByRecursion (λ (t : Term). V t.0) ts → AllByRecursion (λ (t : Term). V t.0 ⊎ (S t.0 × (ContainsByRecursion t.0 (r.0 ∷ ps) → ⊥))) ts
+    widen : (ts : List Monomial) → AllByRecursion (λ (t : Monomial). V t.0) ts → AllByRecursion (λ (t : Monomial). V t.0 ⊎ (S t.0 × (ContainsByRecursion t.0 (r.0 ∷ ps) → ⊥))) ts
     widen [] h = tt
     widen (t ∷ ts) h = (inl h.0, widen ts h.1)
 
-    weaken : (ts : List Term) → AllByRecursion (λ (t : Term). V t.0 ⊎ ((S t.0 × ((r.0 ≡ t.0) → ⊥)) × (ContainsByRecursion t.0 ps → ⊥))) ts → AllByRecursion (λ (t : Term). V t.0 ⊎ (S t.0 × (ContainsByRecursion t.0 (r.0 ∷ ps) → ⊥))) ts
+    weaken : (ts : List Monomial) → AllByRecursion (λ (t : Monomial). V t.0 ⊎ ((S t.0 × ((r.0 ≡ t.0) → ⊥)) × (ContainsByRecursion t.0 ps → ⊥))) ts → AllByRecursion (λ (t : Monomial). V t.0 ⊎ (S t.0 × (ContainsByRecursion t.0 (r.0 ∷ ps) → ⊥))) ts
     weaken [] h = tt
     weaken (t ∷ ts) h = (elim h.0 [ inl k ↦ inl k | inr k ↦ inr (k.0.0, λ c. elim c [ inl e ↦ k.0.1 (sym e) | inr d ↦ k.1 d ]) ], weaken ts h.1)
 
@@ -112,7 +112,7 @@ contains-without w v (u ∷ us) h apart = by-test (contains-without w v us) (v =
     by-test go true e = elim h [ inl same ↦ absurd (apart (grind (arith, nat_tests))) | inr k ↦ go k apart ]
     by-test go false e = elim h [ inl same ↦ inl same | inr k ↦ inr (go k apart) ]
 
-contains-terms : (S : ℕ → Type 0) (ts : List Term) → ((u : ℕ) → ContainsByRecursion u (map (λ (t : Term). t.0) ts) → S u) → AllByRecursion (λ (t : Term). S t.0) ts
+contains-terms : (S : ℕ → Type 0) (ts : List Monomial) → ((u : ℕ) → ContainsByRecursion u (map (λ (t : Monomial). t.0) ts) → S u) → AllByRecursion (λ (t : Monomial). S t.0) ts
 contains-terms S [] h = tt
 contains-terms S (t ∷ ts) h = (h t.0 (inl refl), contains-terms S ts (λ u k. h u (inr k)))
 
@@ -149,7 +149,7 @@ truths-last : (V : ℕ → Type 0) (F : Nodes) (rs : List (ℕ × Meaning)) → 
 truths-last V F rs n n' le h v i e = node-lasts V F i n n' le (h v i e)
 
 -- the node in the place of an atom is such a one
-truth-found : (V : ℕ → Type 0) (F : Nodes) (rs : List (ℕ × Meaning)) (ts : List Term) (i n : ℕ) → TruthsIn V F rs n → Theory.truth_for rs ts ≡ Some i → NodeIn V F i n
+truth-found : (V : ℕ → Type 0) (F : Nodes) (rs : List (ℕ × Meaning)) (ts : List Monomial) (i n : ℕ) → TruthsIn V F rs n → Theory.truth_for rs ts ≡ Some i → NodeIn V F i n
 truth-found V F rs [] i n h e = absurd cc
 truth-found V F rs (t ∷ u ∷ ts) i n h e = absurd cc
 truth-found V F rs (t ∷ []) i n h e = by-replacement (Theory.replacement rs t.0) refl e
@@ -173,7 +173,7 @@ good-copy-node F V Q whole p ps rs re copies i x at = by-node x (whole.trees i �
     by-node node.False t at = good-make F (After V F ps i) Q (C node.False) whole node.False p (λ n c. (tt, tt))
     by-node (node.Atom kind terms c) t at = by-truth (Theory.truth_for rs terms) refl
       where
-        inside : AllByRecursion (λ (t : Term). ContainsByRecursion t.0 (variables_of F i)) terms
+        inside : AllByRecursion (λ (t : Monomial). ContainsByRecursion t.0 (variables_of F i)) terms
         inside = contains-terms (λ u. ContainsByRecursion u (variables_of F i)) terms (λ u k. subst (λ r. ContainsByRecursion u (free_variables r)) (sym t) k)
 
         wide : (us : List ℕ) → AllByRecursion V us → AllByRecursion (After V F ps i) us
@@ -308,7 +308,7 @@ good-copy F V Q whole p ps rs re body w w' x e = (
 pub meaning-wider : (V W : ℕ → Type 0) (F : Nodes) (m : Meaning) (n : ℕ) → ((v : ℕ) → V v → W v) → MeaningIn V F m n → MeaningIn W F m n
 meaning-wider V W F (Int f) n wider h = wide f.terms h
   where
-    wide : (ts : List Term) → AllByRecursion (λ (t : Term). V t.0) ts → AllByRecursion (λ (t : Term). W t.0) ts
+    wide : (ts : List Monomial) → AllByRecursion (λ (t : Monomial). V t.0) ts → AllByRecursion (λ (t : Monomial). W t.0) ts
     wide [] h = tt
     wide (t ∷ ts) h = (wider t.0 h.0, wide ts h.1)
 meaning-wider V W F (Truth i) n wider h = (h.0, wide (variables_of F i) h.1)
@@ -321,7 +321,7 @@ meaning-wider V W F (Truth i) n wider h = (h.0, wide (variables_of F i) h.1)
 replaces-all : (V : ℕ → Type 0) (ps : List ℕ) (rs : List (ℕ × Meaning)) → ((S : ℕ → Type 0) (v : ℕ) → S v → FormIn (λ u. V u ⊎ (S u × (ContainsByRecursion u ps → ⊥))) (Theory.replacing rs v) 0) → Replaces (λ v. V v ⊎ ContainsByRecursion v ps) V rs
 replaces-all V ps rs re v h = over (Theory.replacing rs v).terms (re (λ u. V u ⊎ ContainsByRecursion u ps) v h)
   where
-    over : (ts : List Term) → AllByRecursion (λ (t : Term). V t.0 ⊎ ((V t.0 ⊎ ContainsByRecursion t.0 ps) × (ContainsByRecursion t.0 ps → ⊥))) ts → AllByRecursion (λ (t : Term). V t.0) ts
+    over : (ts : List Monomial) → AllByRecursion (λ (t : Monomial). V t.0 ⊎ ((V t.0 ⊎ ContainsByRecursion t.0 ps) × (ContainsByRecursion t.0 ps → ⊥))) ts → AllByRecursion (λ (t : Monomial). V t.0) ts
     over [] h = tt
     over (t ∷ ts) h = (elim h.0 [ inl k ↦ k | inr k ↦ elim k.0 [ inl v ↦ v | inr d ↦ absurd (k.1 d) ] ], over ts h.1)
 
@@ -367,7 +367,7 @@ arguments-replace F V ps rs n all h S v s = subst (λ us. FormIn (λ u. V u ⊎ 
 any-replace : (F : Nodes) (ps : List ℕ) (rs : List (ℕ × Meaning)) → IsReplacing (λ v. ⊤) F ps rs
 any-replace F ps rs S v s = over (Theory.replacing rs v).terms
   where
-    over : (ts : List Term) → AllByRecursion (λ (t : Term). ⊤ ⊎ (S t.0 × (ContainsByRecursion t.0 ps → ⊥))) ts
+    over : (ts : List Monomial) → AllByRecursion (λ (t : Monomial). ⊤ ⊎ (S t.0 × (ContainsByRecursion t.0 ps → ⊥))) ts
     over [] = tt
     over (t ∷ ts) = (inl tt, over ts)
 

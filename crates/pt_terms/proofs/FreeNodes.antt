@@ -8,7 +8,7 @@ use Rattle.pt_formula.specs.declared.node.Node.TheVariants as node
 use Rattle.pt_formula.specs.declared.node.Position.{Position}
 use Rattle.pt_formula.specs.declared.TheConstants.{MAX_TRACKS, MAX_NODES}
 use Rattle.pt_formula.specs.declared.fault.FormulaFault.TheVariants as fault
-use Rattle.pt_formula.specs.Forms.{Term}
+use Rattle.pt_formula.specs.Forms.{Monomial}
 use Rattle.pt_formula.specs.Truth.{insert_var, union, without, free_variables}
 use Rattle.pt_formula.specs.Formulas.{node_at, entry_node, node_tree, tree_of, variables_of, made, contains}
 use Rattle.pt_terms.specs.declared.meaning.Sort.{Sort as VariableSort}
@@ -20,7 +20,7 @@ use Rattle.pt_terms.specs.Free.{Nodes, IsFront, Grown, BindsIn, IsWhole, FreeIn,
 abbrev pub PartsIn : (ℕ → Type 0) → Nodes → Node → Type 0
 PartsIn V F node.True = ⊤
 PartsIn V F node.False = ⊤
-PartsIn V F (node.Atom kind terms c) = AllByRecursion (λ (t : Term). V t.0) terms
+PartsIn V F (node.Atom kind terms c) = AllByRecursion (λ (t : Monomial). V t.0) terms
 PartsIn V F (node.Not a) = FreeIn V F a
 PartsIn V F (node.And a b) = FreeIn V F a × FreeIn V F b
 PartsIn V F (node.Or a b) = FreeIn V F a × FreeIn V F b
@@ -54,7 +54,7 @@ all-without V v (u ∷ us) h = elim (v == u) as (λ b. v == u ≡ b → AllByRec
   | false ↦ λ e. (elim h.0 [ inl k ↦ k | inr same ↦ let other : (v == u) ≡ true = grind (arith, nat_tests) in absurd cc ], all-without V v us h.1)
 ] refl
 
-pub all-terms : (V : ℕ → Type 0) (ts : List Term) → AllByRecursion (λ (t : Term). V t.0) ts → AllByRecursion V (map (λ (t : Term). t.0) ts)
+pub all-terms : (V : ℕ → Type 0) (ts : List Monomial) → AllByRecursion (λ (t : Monomial). V t.0) ts → AllByRecursion V (map (λ (t : Monomial). t.0) ts)
 all-terms V [] h = tt
 all-terms V (t ∷ ts) h = (h.0, all-terms V ts h.1)
 

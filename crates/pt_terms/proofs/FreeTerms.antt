@@ -8,7 +8,7 @@ use Rattle.pt_formula.specs.declared.node.Position.{Position}
 use Rattle.pt_formula.specs.declared.form.Form.{Form}
 use Rattle.pt_atoms.specs.declared.Kind.{Kind}
 use Rattle.pt_atoms.specs.declared.Kind.TheVariants.{Eq, Le}
-use Rattle.pt_formula.specs.Forms.{Term, is_zero}
+use Rattle.pt_formula.specs.Forms.{Monomial, is_zero}
 use Rattle.pt_formula.specs.Sums.{fits, fits_form, has_few_terms, term_list, add_term, sum_terms, scale_terms, form_sum, form_difference, form_scale}
 use Rattle.pt_formula.specs.Formulas.{truth_node}
 use Rattle.pt_syntax.specs.declared.kinds.ReadKind.TheVariants.{Sort, Coefficient, Tracks}
@@ -116,7 +116,7 @@ good-choice F V Q whole p c a b =
 
 -- ---- relations
 
-pub good-atom : (F : Nodes) (V Q C : ℕ → Type 0) → IsWhole F → (p : Position) (kind : Kind) (ts : List Term) (c : ℤ) → ((n : ℕ) → C n → AllByRecursion (λ (t : Term). V t.0) ts) → Good F Q C (NodeIn V F) (Theory.atom p kind ts c)
+pub good-atom : (F : Nodes) (V Q C : ℕ → Type 0) → IsWhole F → (p : Position) (kind : Kind) (ts : List Monomial) (c : ℤ) → ((n : ℕ) → C n → AllByRecursion (λ (t : Monomial). V t.0) ts) → Good F Q C (NodeIn V F) (Theory.atom p kind ts c)
 good-atom F V Q C whole p kind [] c h = by-truth (Theory.zero_compares kind c)
   where
     by-truth : (b : Bool) → Good F Q C (NodeIn V F) (make (truth_node b) p)
@@ -137,31 +137,31 @@ good-form F V Q C f p h = by-size (fits_form f) (has_few_terms f)
     by-size false b = good-refuse F Q C (FormIn V) Coefficient p
 
 -- sums and multiples have no new variables
-all-term-list : (V : ℕ → Type 0) (t : Term) → V t.0 → AllByRecursion (λ (t : Term). V t.0) (term_list t)
-all-term-list V t h = elim (is_zero t.1) as (λ b. AllByRecursion (λ (t : Term). V t.0) (if b then [] else t ∷ [])) [ true ↦ tt | false ↦ (h, tt) ]
+all-term-list : (V : ℕ → Type 0) (t : Monomial) → V t.0 → AllByRecursion (λ (t : Monomial). V t.0) (term_list t)
+all-term-list V t h = elim (is_zero t.1) as (λ b. AllByRecursion (λ (t : Monomial). V t.0) (if b then [] else t ∷ [])) [ true ↦ tt | false ↦ (h, tt) ]
 
 pub all-append : {A : Type 0} (P : A → Type 0) (xs ys : List A) → AllByRecursion P xs → AllByRecursion P ys → AllByRecursion P (xs ++ ys)
 all-append P [] ys h k = k
 all-append P (x ∷ xs) ys h k = (h.0, all-append P xs ys h.1 k)
 
-all-add : (V : ℕ → Type 0) (t : Term) (us : List Term) → V t.0 → AllByRecursion (λ (t : Term). V t.0) us → AllByRecursion (λ (t : Term). V t.0) (add_term t us)
+all-add : (V : ℕ → Type 0) (t : Monomial) (us : List Monomial) → V t.0 → AllByRecursion (λ (t : Monomial). V t.0) us → AllByRecursion (λ (t : Monomial). V t.0) (add_term t us)
 all-add V t [] h k = all-term-list V t h
 all-add V t (u ∷ us) h k =
-    elim (nat_lt t.0 u.0) as (λ b. AllByRecursion (λ (t : Term). V t.0) (if b then term_list t ++ u ∷ us else if t.0 == u.0 then term_list (t.0, t.1 +ℤ u.1) ++ us else u ∷ add_term t us)) [
-      | true ↦ all-append (λ (t : Term). V t.0) (term_list t) (u ∷ us) (all-term-list V t h) k
-      | false ↦ elim (t.0 == u.0) as (λ b. AllByRecursion (λ (t : Term). V t.0) (if b then term_list (t.0, t.1 +ℤ u.1) ++ us else u ∷ add_term t us)) [
-        | true ↦ all-append (λ (t : Term). V t.0) (term_list (t.0, t.1 +ℤ u.1)) us (all-term-list V (t.0, t.1 +ℤ u.1) h) k.1
+    elim (nat_lt t.0 u.0) as (λ b. AllByRecursion (λ (t : Monomial). V t.0) (if b then term_list t ++ u ∷ us else if t.0 == u.0 then term_list (t.0, t.1 +ℤ u.1) ++ us else u ∷ add_term t us)) [
+      | true ↦ all-append (λ (t : Monomial). V t.0) (term_list t) (u ∷ us) (all-term-list V t h) k
+      | false ↦ elim (t.0 == u.0) as (λ b. AllByRecursion (λ (t : Monomial). V t.0) (if b then term_list (t.0, t.1 +ℤ u.1) ++ us else u ∷ add_term t us)) [
+        | true ↦ all-append (λ (t : Monomial). V t.0) (term_list (t.0, t.1 +ℤ u.1)) us (all-term-list V (t.0, t.1 +ℤ u.1) h) k.1
         | false ↦ (k.0, all-add V t us h k.1)
       ]
     ]
 
-all-sum : (V : ℕ → Type 0) (ts us : List Term) → AllByRecursion (λ (t : Term). V t.0) ts → AllByRecursion (λ (t : Term). V t.0) us → AllByRecursion (λ (t : Term). V t.0) (sum_terms ts us)
+all-sum : (V : ℕ → Type 0) (ts us : List Monomial) → AllByRecursion (λ (t : Monomial). V t.0) ts → AllByRecursion (λ (t : Monomial). V t.0) us → AllByRecursion (λ (t : Monomial). V t.0) (sum_terms ts us)
 all-sum V [] us h k = k
 all-sum V (t ∷ ts) us h k = all-add V t (sum_terms ts us) h.0 (all-sum V ts us h.1 k)
 
-all-scale : (V : ℕ → Type 0) (c : ℤ) (ts : List Term) → AllByRecursion (λ (t : Term). V t.0) ts → AllByRecursion (λ (t : Term). V t.0) (scale_terms c ts)
+all-scale : (V : ℕ → Type 0) (c : ℤ) (ts : List Monomial) → AllByRecursion (λ (t : Monomial). V t.0) ts → AllByRecursion (λ (t : Monomial). V t.0) (scale_terms c ts)
 all-scale V c [] h = tt
-all-scale V c (t ∷ ts) h = all-append (λ (t : Term). V t.0) (term_list (t.0, c *ℤ t.1)) (scale_terms c ts) (all-term-list V (t.0, c *ℤ t.1) h.0) (all-scale V c ts h.1)
+all-scale V c (t ∷ ts) h = all-append (λ (t : Monomial). V t.0) (term_list (t.0, c *ℤ t.1)) (scale_terms c ts) (all-term-list V (t.0, c *ℤ t.1) h.0) (all-scale V c ts h.1)
 
 pub sum-in : (V : ℕ → Type 0) (f g : Form) (n : ℕ) → FormIn V f n → FormIn V g n → FormIn V (form_sum f g) n
 sum-in V f g n h k = all-sum V f.terms g.terms h k

@@ -9,7 +9,7 @@ use Rattle.pt_formula.specs.declared.node.Node.{Node}
 use Rattle.pt_formula.specs.declared.node.Node.TheVariants as node
 use Rattle.pt_formula.specs.declared.node.Position.{Position}
 use Rattle.pt_formula.specs.declared.form.Form.{Form}
-use Rattle.pt_formula.specs.Forms.{Term}
+use Rattle.pt_formula.specs.Forms.{Monomial}
 use Rattle.pt_formula.specs.Sums.{form_sum, form_scale}
 use Rattle.pt_formula.specs.Formulas.{node_at, entry_node}
 use Rattle.pt_syntax.specs.declared.kinds.ReadKind.TheVariants.{Sort}
@@ -52,7 +52,7 @@ replaced-in rs v w h int = by-replacement (Theory.replacement rs v) refl
     by-replacement (Some (Int f)) e = (replacement-in rs v w (Int f) h e).0
     by-replacement (Some (Truth i)) e = constant-form-in (pos 0) w refl
 
-keeps-substituted : (p : Position) (rs : List (ℕ × Meaning)) (f : Form) (ts : List Term) (w : Work) → AreIn rs w → IsFormIn f w → AreIntegers w.given ts → Keeps IsFormIn (Theory.substituted p rs f ts) w
+keeps-substituted : (p : Position) (rs : List (ℕ × Meaning)) (f : Form) (ts : List Monomial) (w : Work) → AreIn rs w → IsFormIn f w → AreIntegers w.given ts → Keeps IsFormIn (Theory.substituted p rs f ts) w
 keeps-substituted p rs f [] w re h ints = keeps-give IsFormIn f w h
 keeps-substituted p rs f (t ∷ ts) w re h ints =
     keeps-then IsFormIn IsFormIn (form (form_scale t.1 (Theory.replacing rs t.0)) p) (λ x. form (form_sum f x) p >>= λ y. Theory.substituted p rs y ts) w (keeps-scale t.1 (Theory.replacing rs t.0) p w (replaced-in rs t.0 w re ints.0))
@@ -67,7 +67,7 @@ keeps-truth-copied laws p rs v w re has = by-replacement (Theory.replacement rs 
     by-replacement (Some (Truth i)) e = rw e (keeps-give IsNodeIn i w (replacement-in rs v w (Truth i) re e).0)
     by-replacement (Some (Int f)) e = not-both w.given v (replacement-in rs v w (Int f) re e).1 has
 
-keeps-atom-copied : Laws → (p : Position) (rs : List (ℕ × Meaning)) (kind : Kind) (ts : List Term) (k : ℤ) (w : Work) → AreIn rs w → IsModulus kind → IsSorted w.given (node.Atom kind ts k) → Keeps IsNodeIn (Theory.copied_atom p rs kind ts k (Theory.truth_for rs ts)) w
+keeps-atom-copied : Laws → (p : Position) (rs : List (ℕ × Meaning)) (kind : Kind) (ts : List Monomial) (k : ℤ) (w : Work) → AreIn rs w → IsModulus kind → IsSorted w.given (node.Atom kind ts k) → Keeps IsNodeIn (Theory.copied_atom p rs kind ts k (Theory.truth_for rs ts)) w
 keeps-atom-copied laws p rs kind ts k w re modulus (inl ints) =
     rw (no-truth rs ts w re ints)
     (keeps-then IsFormIn IsNodeIn (Theory.substituted p rs (constant_form (pos 0)) ts) (λ g. Theory.atom p kind g.terms (Theory.new_constant kind (k -ℤ g.constant))) w (keeps-substituted p rs (constant_form (pos 0)) ts w re (constant-form-in (pos 0) w refl) ints)

@@ -5,7 +5,7 @@ use Rattle.std.specs.Prelude.{ℤ, pos, negsuc, ◌+ℤ◌, ◌*ℤ◌, ◌^◌}
 use Rattle.std.specs.List.{AllByRecursion}
 use Rattle.pt_formula.specs.declared.node.Position.{Position}
 use Rattle.pt_formula.specs.declared.form.Form.{Form}
-use Rattle.pt_formula.specs.Forms.{Term, is_zero, IsIncreasing, AreTerms}
+use Rattle.pt_formula.specs.Forms.{Monomial, is_zero, IsIncreasing, AreTerms}
 use Rattle.pt_formula.specs.Sums.{fits, fits_terms, fits_form, has_few_terms, term_list, add_term, sum_terms, scale_terms, form_sum, form_difference, form_scale, IsForm}
 use Rattle.pt_syntax.specs.declared.kinds.ReadKind.TheVariants.{Coefficient, Tracks}
 use Rattle.pt_terms.specs.declared.meaning.Sort.TheVariants as sort
@@ -17,20 +17,20 @@ use Rattle.pt_terms.proofs.FreeTerms.{sum-in, scale-in, difference-in}
 use Rattle.pt_terms.proofs.KeepSteps.{keeps-give, keeps-refuse}
 
 -- variables increase, from behind v on
-abbrev Above : ℕ → List Term → Type 0
-Above v ts = AllByRecursion (λ u. v < u) (map (λ (t : Term). t.0) ts)
+abbrev Above : ℕ → List Monomial → Type 0
+Above v ts = AllByRecursion (λ u. v < u) (map (λ (t : Monomial). t.0) ts)
 
-abbrev HasNoZeros : List Term → Type 0
-HasNoZeros ts = AllByRecursion (λ (t : Term). IsTrue (not (is_zero t.1))) ts
+abbrev HasNoZeros : List Monomial → Type 0
+HasNoZeros ts = AllByRecursion (λ (t : Monomial). IsTrue (not (is_zero t.1))) ts
 
-above-more : (v u : ℕ) (ts : List Term) → v < u → Above u ts → Above v ts
+above-more : (v u : ℕ) (ts : List Monomial) → v < u → Above u ts → Above v ts
 above-more v u [] lt h = tt
 above-more v u (t ∷ ts) lt h = (omega (arith, h.0), above-more v u ts lt h.1)
 
-above-list : (v : ℕ) (t : Term) (ts : List Term) → v < t.0 → Above v ts → Above v (term_list t ++ ts)
+above-list : (v : ℕ) (t : Monomial) (ts : List Monomial) → v < t.0 → Above v ts → Above v (term_list t ++ ts)
 above-list v t ts lt h = elim (is_zero t.1) as (λ b. Above v ((if b then [] else t ∷ []) ++ ts)) [ true ↦ h | false ↦ (lt, h) ]
 
-above-add : (v : ℕ) (t : Term) (us : List Term) → v < t.0 → Above v us → Above v (add_term t us)
+above-add : (v : ℕ) (t : Monomial) (us : List Monomial) → v < t.0 → Above v us → Above v (add_term t us)
 above-add v t [] lt h = elim (is_zero t.1) as (λ b. Above v (if b then [] else t ∷ [])) [ true ↦ tt | false ↦ (lt, tt) ]
 above-add v t (u ∷ us) lt h = by-place (above-add v t us lt h.1) (nat_lt t.0 u.0) (t.0 == u.0)
   where
@@ -39,27 +39,27 @@ above-add v t (u ∷ us) lt h = by-place (above-add v t us lt h.1) (nat_lt t.0 u
     by-place go false true = above-list v (t.0, t.1 +ℤ u.1) us lt h.1
     by-place go false false = (h.0, go)
 
-rising-list : (t : Term) (ts : List Term) → Above t.0 ts → IsIncreasing (map (λ (t : Term). t.0) ts) → IsIncreasing (map (λ (t : Term). t.0) (term_list t ++ ts))
-rising-list t ts h k = elim (is_zero t.1) as (λ b. IsIncreasing (map (λ (t : Term). t.0) ((if b then [] else t ∷ []) ++ ts))) [ true ↦ k | false ↦ (h, k) ]
+rising-list : (t : Monomial) (ts : List Monomial) → Above t.0 ts → IsIncreasing (map (λ (t : Monomial). t.0) ts) → IsIncreasing (map (λ (t : Monomial). t.0) (term_list t ++ ts))
+rising-list t ts h k = elim (is_zero t.1) as (λ b. IsIncreasing (map (λ (t : Monomial). t.0) ((if b then [] else t ∷ []) ++ ts))) [ true ↦ k | false ↦ (h, k) ]
 
-rising-add : (t : Term) (us : List Term) → IsIncreasing (map (λ (t : Term). t.0) us) → IsIncreasing (map (λ (t : Term). t.0) (add_term t us))
-rising-add t [] h = elim (is_zero t.1) as (λ b. IsIncreasing (map (λ (t : Term). t.0) (if b then [] else t ∷ []))) [ true ↦ tt | false ↦ (tt, tt) ]
+rising-add : (t : Monomial) (us : List Monomial) → IsIncreasing (map (λ (t : Monomial). t.0) us) → IsIncreasing (map (λ (t : Monomial). t.0) (add_term t us))
+rising-add t [] h = elim (is_zero t.1) as (λ b. IsIncreasing (map (λ (t : Monomial). t.0) (if b then [] else t ∷ []))) [ true ↦ tt | false ↦ (tt, tt) ]
 rising-add t (u ∷ us) h = by-place (rising-add t us h.1) (nat_lt t.0 u.0) refl (t.0 == u.0) refl
   where
-    by-place : IsIncreasing (map (λ (t : Term). t.0) (add_term t us)) → (a : Bool) → nat_lt t.0 u.0 ≡ a → (b : Bool) → (t.0 == u.0) ≡ b
-        → IsIncreasing (map (λ (t : Term). t.0) (if a then term_list t ++ u ∷ us else if b then term_list (t.0, t.1 +ℤ u.1) ++ us else u ∷ add_term t us))
+    by-place : IsIncreasing (map (λ (t : Monomial). t.0) (add_term t us)) → (a : Bool) → nat_lt t.0 u.0 ≡ a → (b : Bool) → (t.0 == u.0) ≡ b
+        → IsIncreasing (map (λ (t : Monomial). t.0) (if a then term_list t ++ u ∷ us else if b then term_list (t.0, t.1 +ℤ u.1) ++ us else u ∷ add_term t us))
     by-place go true e b f = let less : t.0 < u.0 = grind (arith, nat_tests) in rising-list t (u ∷ us) (less, above-more t.0 u.0 us less h.0) h
     by-place go false e true f = let same : u.0 ≡ t.0 = grind (arith, nat_tests) in rising-list (t.0, t.1 +ℤ u.1) us (subst (λ v. Above v us) same h.0) h.1
     by-place go false e false f = let less : u.0 < t.0 = grind (arith, nat_tests) in (above-add u.0 t us less h.0, go)
 
-no-zeros-list : (t : Term) (ts : List Term) → HasNoZeros ts → HasNoZeros (term_list t ++ ts)
+no-zeros-list : (t : Monomial) (ts : List Monomial) → HasNoZeros ts → HasNoZeros (term_list t ++ ts)
 no-zeros-list t ts h = by-zero (is_zero t.1) refl
   where
     by-zero : (b : Bool) → is_zero t.1 ≡ b → HasNoZeros ((if b then [] else t ∷ []) ++ ts)
     by-zero true e = h
     by-zero false e = (ap not e, h)
 
-no-zeros-add : (t : Term) (us : List Term) → HasNoZeros us → HasNoZeros (add_term t us)
+no-zeros-add : (t : Monomial) (us : List Monomial) → HasNoZeros us → HasNoZeros (add_term t us)
 no-zeros-add t [] h = by-zero (is_zero t.1) refl
   where
     by-zero : (b : Bool) → is_zero t.1 ≡ b → HasNoZeros (if b then [] else t ∷ [])
@@ -72,15 +72,15 @@ no-zeros-add t (u ∷ us) h = by-place (no-zeros-add t us h.1) (nat_lt t.0 u.0) 
     by-place go false true = no-zeros-list (t.0, t.1 +ℤ u.1) us h.1
     by-place go false false = (h.0, go)
 
-terms-sum : (ts us : List Term) → AreTerms us → AreTerms (sum_terms ts us)
+terms-sum : (ts us : List Monomial) → AreTerms us → AreTerms (sum_terms ts us)
 terms-sum [] us h = h
 terms-sum (t ∷ ts) us h = let rest = terms-sum ts us h in (rising-add t (sum_terms ts us) rest.0, no-zeros-add t (sum_terms ts us) rest.1)
 
-above-scale : (v : ℕ) (k : ℤ) (ts : List Term) → Above v ts → Above v (scale_terms k ts)
+above-scale : (v : ℕ) (k : ℤ) (ts : List Monomial) → Above v ts → Above v (scale_terms k ts)
 above-scale v k [] h = tt
 above-scale v k (t ∷ ts) h = above-list v (t.0, k *ℤ t.1) (scale_terms k ts) h.0 (above-scale v k ts h.1)
 
-terms-scale : (k : ℤ) (ts : List Term) → AreTerms ts → AreTerms (scale_terms k ts)
+terms-scale : (k : ℤ) (ts : List Monomial) → AreTerms ts → AreTerms (scale_terms k ts)
 terms-scale k [] h = (tt, tt)
 terms-scale k (t ∷ ts) h =
     let rest = terms-scale k ts (h.0.1, h.1.1) in

@@ -9,7 +9,7 @@ use Rattle.pt_formula.specs.declared.node.Node.{Node}
 use Rattle.pt_formula.specs.declared.node.Node.TheVariants as node
 use Rattle.pt_formula.specs.declared.node.Position.{Position}
 use Rattle.pt_formula.specs.declared.form.Form.{Form}
-use Rattle.pt_formula.specs.Forms.{Term, AreTerms}
+use Rattle.pt_formula.specs.Forms.{Monomial, AreTerms}
 use Rattle.pt_formula.specs.Sums.{fits, form_sum, form_difference, form_scale}
 use Rattle.pt_formula.specs.Formulas.{truth_node}
 use Rattle.pt_syntax.specs.declared.kinds.ReadKind.TheVariants.{Sort, Coefficient, Nonlinear, Unsupported}
@@ -104,7 +104,7 @@ keeps-choice laws p c a b w hc ha hb =
 
 -- ---- relations
 
-pub keeps-atom : Laws → (p : Position) (kind : Kind) (ts : List Term) (c : ℤ) (w : Work) → AreTerms ts → AreIntegers w.given ts → IsModulus kind → Keeps IsNodeIn (Theory.atom p kind ts c) w
+pub keeps-atom : Laws → (p : Position) (kind : Kind) (ts : List Monomial) (c : ℤ) (w : Work) → AreTerms ts → AreIntegers w.given ts → IsModulus kind → Keeps IsNodeIn (Theory.atom p kind ts c) w
 keeps-atom laws p kind [] c w terms below modulus = by-truth (Theory.zero_compares kind c)
   where
     by-truth : (b : Bool) → Keeps IsNodeIn (make (truth_node b) p) w

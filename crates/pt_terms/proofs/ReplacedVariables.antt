@@ -4,7 +4,7 @@ use Rattle.std.proofs.lemmas.Bool.Decides.{nat_tests}
 use Rattle.std.specs.Prelude.{Option, Some, None, pos, ◌-ℤ◌}
 use Rattle.pt_atoms.specs.declared.Kind.TheVariants.{Mod}
 use Rattle.pt_formula.specs.declared.node.Position.{Position}
-use Rattle.pt_formula.specs.Forms.{Term}
+use Rattle.pt_formula.specs.Forms.{Monomial}
 use Rattle.pt_formula.specs.Sums.{form_sum, form_scale}
 use Rattle.pt_terms.specs.declared.meaning.Meaning.{Meaning}
 use Rattle.pt_terms.specs.declared.meaning.Meaning.TheVariants.{Int, Bool as Truth}
@@ -33,7 +33,7 @@ truth-copied p rs v e =
     ∙ ap (λ o. (form (form_scale (pos 1) (Theory.form_for v o)) p >>= λ g. form (form_sum (constant_form (pos 0)) g) p >>= λ h. give h) >>= λ g. Theory.atom p (Mod 2) g.terms (Theory.new_constant (Mod 2) (pos 1 -ℤ g.constant))) e
 
 -- no node stands in the place of an atom over variables of sort Int
-pub no-truth : (rs : List (ℕ × Meaning)) (ts : List Term) (w : Work) → AreReplacing w rs → AreIntegers w.given ts → Theory.truth_for rs ts ≡ None
+pub no-truth : (rs : List (ℕ × Meaning)) (ts : List Monomial) (w : Work) → AreReplacing w rs → AreIntegers w.given ts → Theory.truth_for rs ts ≡ None
 no-truth rs [] w re h = refl
 no-truth rs (t ∷ u ∷ ts) w re h = refl
 no-truth rs (t ∷ []) w re h = by-replacement (Theory.replacement rs t.0) refl

@@ -5,7 +5,7 @@ use Rattle.std.proofs.lemmas.Option.{slice_get_within}
 use Rattle.pt_formula.specs.declared.node.Node.{Node}
 use Rattle.pt_formula.specs.declared.node.Node.TheVariants as node
 use Rattle.pt_formula.specs.declared.node.Position.{Position}
-use Rattle.pt_formula.specs.Forms.{Term}
+use Rattle.pt_formula.specs.Forms.{Monomial}
 use Rattle.pt_formula.specs.Formulas.{node_at}
 use Rattle.pt_atoms.specs.declared.Kind.{Kind}
 use Rattle.std.specs.Prelude.{ℤ, pos}
@@ -44,11 +44,11 @@ have-length given [] (s ∷ ss) h = absurd h
 have-length given (p ∷ ps) [] h = absurd h
 have-length given (p ∷ ps) (s ∷ ss) h = ap suc (have-length given ps ss h.1)
 
-pub integers-more : (v w : Work) (ts : List Term) → Grows v w → AreIntegers v.given ts → AreIntegers w.given ts
+pub integers-more : (v w : Work) (ts : List Monomial) → Grows v w → AreIntegers v.given ts → AreIntegers w.given ts
 integers-more v w [] g h = tt
 integers-more v w (t ∷ ts) g h = (has-more v w t.0 sort.Int g h.0, integers-more v w ts g h.1)
 
-pub integers-below : (given : List Sort) (ts : List Term) → AreIntegers given ts → AreTermsBelow (length given) ts
+pub integers-below : (given : List Sort) (ts : List Monomial) → AreIntegers given ts → AreTermsBelow (length given) ts
 integers-below given [] h = tt
 integers-below given (t ∷ ts) h = (has-below given t.0 sort.Int h.0, integers-below given ts h.1)
 
@@ -64,12 +64,12 @@ sorted-more v w (node.Iff a b) g h = tt
 sorted-more v w (node.Xor a b) g h = tt
 sorted-more v w (node.Exists u a) g h = tt
 
-terms-in : Node → List Term
+terms-in : Node → List Monomial
 terms-in (node.Atom kind ts c) = ts
 terms-in _ = []
 
 -- the variables of a sorted atom have been given out
-pub sorted-below : (given : List Sort) (kind : Kind) (ts : List Term) (c : ℤ) → IsSorted given (node.Atom kind ts c) → AreTermsBelow (length given) ts
+pub sorted-below : (given : List Sort) (kind : Kind) (ts : List Monomial) (c : ℤ) → IsSorted given (node.Atom kind ts c) → AreTermsBelow (length given) ts
 unfolding terms-in
 sorted-below given kind ts c (inl h) = integers-below given ts h
 sorted-below given kind ts c (inr h) = subst (AreTermsBelow (length given)) (sym (ap terms-in h.2)) (has-below given h.0 sort.Bool h.1, tt)
@@ -79,18 +79,18 @@ pub not-both : {X : Type 0} (given : List Sort) (v : ℕ) → HasSort given v so
 not-both given v h k = let both : ◌≡◌ {A = _} (Some sort.Int) (Some sort.Bool) = sym h ∙ k in absurd cc
 
 -- the first variable of an atom tells its kind
-same-first : (kind : Kind) (ts : List Term) (c : ℤ) (t : Term) (rest : List Term) (v : ℕ) → ts ≡ t ∷ rest → node.Atom kind ts c ≡ truth_atom v → t.0 ≡ v
+same-first : (kind : Kind) (ts : List Monomial) (c : ℤ) (t : Monomial) (rest : List Monomial) (v : ℕ) → ts ≡ t ∷ rest → node.Atom kind ts c ≡ truth_atom v → t.0 ≡ v
 unfolding terms-in
 same-first kind ts c t rest v is same =
-    let both : ◌≡◌ {A = List Term} (t ∷ rest) ((v, pos 1) ∷ []) = sym is ∙ ap terms-in same in
-    let head : ◌≡◌ {A = Term} t (v, pos 1) = cc in
-    ap (λ (u : Term). u.0) head
+    let both : ◌≡◌ {A = List Monomial} (t ∷ rest) ((v, pos 1) ∷ []) = sym is ∙ ap terms-in same in
+    let head : ◌≡◌ {A = Monomial} t (v, pos 1) = cc in
+    ap (λ (u : Monomial). u.0) head
 
-pub integer-atom : (given : List Sort) (kind : Kind) (ts : List Term) (c : ℤ) (t : Term) (rest : List Term) → ts ≡ t ∷ rest → HasSort given t.0 sort.Int → IsSorted given (node.Atom kind ts c) → AreIntegers given ts
+pub integer-atom : (given : List Sort) (kind : Kind) (ts : List Monomial) (c : ℤ) (t : Monomial) (rest : List Monomial) → ts ≡ t ∷ rest → HasSort given t.0 sort.Int → IsSorted given (node.Atom kind ts c) → AreIntegers given ts
 integer-atom given kind ts c t rest is int (inl h) = h
 integer-atom given kind ts c t rest is int (inr h) = not-both given t.0 int (subst (λ v. HasSort given v sort.Bool) (sym (same-first kind ts c t rest h.0 is h.2)) h.1)
 
-pub truth-atom : (given : List Sort) (kind : Kind) (ts : List Term) (c : ℤ) (t : Term) (rest : List Term) → ts ≡ t ∷ rest → HasSort given t.0 sort.Bool → IsSorted given (node.Atom kind ts c) → node.Atom kind ts c ≡ truth_atom t.0
+pub truth-atom : (given : List Sort) (kind : Kind) (ts : List Monomial) (c : ℤ) (t : Monomial) (rest : List Monomial) → ts ≡ t ∷ rest → HasSort given t.0 sort.Bool → IsSorted given (node.Atom kind ts c) → node.Atom kind ts c ≡ truth_atom t.0
 truth-atom given kind ts c t rest is truth (inl h) = not-both given t.0 (subst (AreIntegers given) is h).0 truth
 truth-atom given kind ts c t rest is truth (inr h) = h.2 ∙ ap truth_atom (sym (same-first kind ts c t rest h.0 is h.2))
 

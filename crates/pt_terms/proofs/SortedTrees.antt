@@ -3,7 +3,7 @@ use Rattle.std.proofs.Common.{◌≡◌, inl, inr, ℕ, zero, suc, List, [], ◌
 use Rattle.std.specs.List.{list_any}
 use Rattle.pt_formula.specs.declared.node.Node.{Node}
 use Rattle.pt_formula.specs.declared.node.Node.TheVariants as node
-use Rattle.pt_formula.specs.Forms.{Term}
+use Rattle.pt_formula.specs.Forms.{Monomial}
 use Rattle.pt_formula.specs.Formulas.{node_at, node_tree, tree_below}
 use Rattle.pt_formula.specs.Oddness.{AsksOddness}
 use Rattle.pt_formula.specs.Truth.{Tree}
@@ -11,10 +11,10 @@ use Rattle.pt_terms.specs.declared.meaning.Sort.{Sort}
 use Rattle.pt_terms.specs.Free.{Nodes}
 use Rattle.pt_terms.specs.Sorts.{AreIntegers, IsSorted, AreSorted, is_truth, is_truth_sort}
 
-no-truth : (given : List Sort) (ts : List Term) → AreIntegers given ts → list_any (λ (t : Term). is_truth given t.0) ts ≡ false
+no-truth : (given : List Sort) (ts : List Monomial) → AreIntegers given ts → list_any (λ (t : Monomial). is_truth given t.0) ts ≡ false
 no-truth given [] h = refl
 no-truth given (t ∷ ts) h =
-    ap (λ b. b || list_any (λ (u : Term). is_truth given u.0) ts) (ap is_truth_sort h.0)
+    ap (λ b. b || list_any (λ (u : Monomial). is_truth given u.0) ts) (ap is_truth_sort h.0)
     ∙ no-truth given ts h.1
 
 asks-node : (given : List Sort) (t : ℕ → Tree) (n : Node) → IsSorted given n → ((i : ℕ) → AsksOddness (is_truth given) (t i)) → AsksOddness (is_truth given) (node_tree t n)

@@ -5,7 +5,7 @@ use Rattle.pt_formula.specs.declared.node.Node.{Node}
 use Rattle.pt_formula.specs.declared.node.Node.TheVariants as node
 use Rattle.pt_formula.specs.declared.node.Position.{Position}
 use Rattle.pt_formula.specs.declared.form.Form.{Form}
-use Rattle.pt_formula.specs.Forms.{Term}
+use Rattle.pt_formula.specs.Forms.{Monomial}
 use Rattle.pt_formula.specs.Sums.{form_sum, form_scale}
 use Rattle.pt_formula.specs.Formulas.{node_at, HasTerms}
 use Rattle.pt_terms.specs.Elaboration.{Elab, give, ◌>>=◌, make, make_exists, form}
@@ -15,7 +15,7 @@ use Rattle.pt_terms.specs.declared.meaning.Sort.{Sort}
 use Rattle.pt_terms.specs.Sorts.{IsSorted}
 
 -- one term with the form in the place of its variable, added to f
-abbrev pub added : Position → List (ℕ × Meaning) → Form → Term → Elab Form
+abbrev pub added : Position → List (ℕ × Meaning) → Form → Monomial → Elab Form
 added p rs f t = form (form_scale t.1 (replacing rs t.0)) p >>= λ g. form (form_sum f g) p
 
 -- the new number of a node; a node past the end stands for itself

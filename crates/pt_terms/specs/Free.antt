@@ -51,7 +51,7 @@ NodeIn V F i n = (i < n) × FreeIn V F i
 
 -- all variables of a form are in V
 abbrev pub FormIn : (ℕ → Type 0) → Form → ℕ → Type 0
-FormIn V f n = AllByRecursion (λ (t : forms.Term). V t.0) f.terms
+FormIn V f n = AllByRecursion (λ (t : forms.Monomial). V t.0) f.terms
 
 abbrev pub MeaningIn : (ℕ → Type 0) → Nodes → Meaning → ℕ → Type 0
 MeaningIn V F (Int f) n = FormIn V f n

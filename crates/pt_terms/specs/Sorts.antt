@@ -5,7 +5,7 @@ use Rattle.pt_atoms.specs.declared.Kind.TheVariants.{Mod}
 use Rattle.pt_formula.specs.declared.node.Node.{Node}
 use Rattle.pt_formula.specs.declared.node.Node.TheVariants as node
 use Rattle.pt_formula.specs.declared.node.Position.{Position}
-use Rattle.pt_formula.specs.Forms.{Term}
+use Rattle.pt_formula.specs.Forms.{Monomial}
 use Rattle.pt_formula.specs.Formulas.{node_at}
 use Rattle.pt_formula.specs.Oddness.{AgreeUpToOddnessAt}
 use Rattle.pt_formula.specs.Truth.{Tree, free_variables, valuation}
@@ -39,8 +39,8 @@ HaveSorts given (v ∷ vs) (s ∷ ss) = HasSort given v s × HaveSorts given vs 
 HaveSorts given _ _ = ⊥
 
 -- the variables of the terms are of sort Int
-abbrev pub AreIntegers : List Sort → List Term → Type 0
-AreIntegers given ts = AllByRecursion (λ (t : Term). HasSort given t.0 sort.Int) ts
+abbrev pub AreIntegers : List Sort → List Monomial → Type 0
+AreIntegers given ts = AllByRecursion (λ (t : Monomial). HasSort given t.0 sort.Int) ts
 
 -- the atom that a variable of sort Bool makes: its integer is odd
 abbrev pub truth_atom : ℕ → Node

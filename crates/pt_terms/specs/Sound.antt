@@ -24,8 +24,8 @@ pub record AreBelow (f : List (Node × Position)) (given : ℕ) : Type 0 where
   pub free : (i v : ℕ) → i < length f → contains v (variables_of f i) ≡ true → v < given
   pub bound : (i v a : ℕ) → node_at f i ≡ node.Exists v a → v < given
 
-abbrev pub AreTermsBelow : ℕ → List forms.Term → Type 0
-AreTermsBelow given ts = AllByRecursion (λ (t : forms.Term). t.0 < given) ts
+abbrev pub AreTermsBelow : ℕ → List forms.Monomial → Type 0
+AreTermsBelow given ts = AllByRecursion (λ (t : forms.Monomial). t.0 < given) ts
 
 -- What is kept of a formula and the sorts of the variables that have been given out.
 pub record IsKept (f : List (Node × Position)) (given : List Sort) : Type 0 where

@@ -8,7 +8,7 @@ use Rattle.pt_formula.specs.declared.node.Position.{Position}
 use Rattle.pt_formula.specs.declared.form.Form.{Form}
 use Rattle.pt_atoms.specs.declared.Kind.{Kind}
 use Rattle.pt_atoms.specs.declared.Kind.TheVariants.{Eq, Le, Mod}
-use Rattle.pt_formula.specs.Forms.{Term, is_zero}
+use Rattle.pt_formula.specs.Forms.{Monomial, is_zero}
 use Rattle.pt_formula.specs.Sums.{fits, form_sum, form_difference, form_scale}
 use Rattle.pt_terms.specs.Elaboration.{constant_form, variable_form, Elab, give, refuse, ◌>>=◌, require, make, make_exists, form, each}
 use Rattle.pt_formula.specs.Formulas.{node_at, children, truth_node}
@@ -78,7 +78,7 @@ zero_compares Le c = int_le (pos 0) c
 zero_compares (Mod m) c = is_zero (int_rem_euclid c (pos m))
 
 -- an atom, but True or False without variables
-abbrev pub atom : Position → Kind → List Term → ℤ → Elab ℕ
+abbrev pub atom : Position → Kind → List Monomial → ℤ → Elab ℕ
 atom p kind [] c = make (truth_node (zero_compares kind c)) p
 atom p kind (t ∷ ts) c = if fits c then make (node.Atom kind (t ∷ ts) c) p else refuse Coefficient p
 
@@ -206,7 +206,7 @@ abbrev pub replacing : List (ℕ × Meaning) → ℕ → Form
 replacing rs v = form_for v (replacement rs v)
 
 -- the terms with forms in place of variables, added up behind f
-abbrev pub substituted : Position → List (ℕ × Meaning) → Form → List Term → Elab Form
+abbrev pub substituted : Position → List (ℕ × Meaning) → Form → List Monomial → Elab Form
 substituted p rs f [] = give f
 substituted p rs f (t ∷ ts) = do
   g ← form (form_scale t.1 (replacing rs t.0)) p
@@ -223,13 +223,13 @@ node_for None = None
 node_for (Some (Int f)) = None
 node_for (Some (Truth i)) = Some i
 
-abbrev pub truth_for : List (ℕ × Meaning) → List Term → Option ℕ
+abbrev pub truth_for : List (ℕ × Meaning) → List Monomial → Option ℕ
 truth_for rs [] = None
 truth_for rs (t ∷ []) = node_for (replacement rs t.0)
 truth_for rs (t ∷ u ∷ ts) = None
 
 -- the copy of an atom, unless a node stands in its place
-abbrev pub copied_atom : Position → List (ℕ × Meaning) → Kind → List Term → ℤ → Option ℕ → Elab ℕ
+abbrev pub copied_atom : Position → List (ℕ × Meaning) → Kind → List Monomial → ℤ → Option ℕ → Elab ℕ
 copied_atom p rs kind ts c (Some i) = give i
 copied_atom p rs kind ts c None = substituted p rs (constant_form (pos 0)) ts >>= λ g. atom p kind g.terms (new_constant kind (c -ℤ g.constant))
 

@@ -8,7 +8,7 @@ use Rattle.std.proofs.lemmas.Bool.Decides.{nat_tests}
 use Rattle.pt_atoms.specs.declared.Kind.{Kind}
 use Rattle.pt_atoms.specs.declared.Kind.TheVariants.{Eq, Le, Mod}
 use Rattle.pt_atoms.specs.Sums.{Congruent}
-use Rattle.pt_formula.specs.Forms.{Term}
+use Rattle.pt_formula.specs.Forms.{Monomial}
 use Rattle.pt_formula.specs.Values.{terms_value}
 use Rattle.pt_formula.specs.Truth.{Tree, True, False, Atom, Not, And, Or, Iff, Xor, Exists, Holds, updated, valuation, free_variables}
 use Rattle.pt_sets.specs.Elements.{ContainsByRecursion}
@@ -36,7 +36,7 @@ value_step (v ∷ vs) a (x ∷ z) u count = by_test (u == v) (value_step vs (a /
     by_test false e = e
 
 -- the sum of terms at a vector behind the digits of a letter
-sum_step : (vs : List ℕ) (ts : List Term) (a : ℕ) (z : Vector) → length z ≡ length vs →
+sum_step : (vs : List ℕ) (ts : List Monomial) (a : ℕ) (z : Vector) → length z ≡ length vs →
     terms_value (valuation vs (doubled_plus a z)) ts ≡ (pos 2 *ℤ terms_value (valuation vs z) ts +ℤ terms_value (valuation vs (bits vs a)) ts)
 sum_step vs [] a z count = omega (arith, ints)
 sum_step vs (t ∷ ts) a z count =
@@ -65,7 +65,7 @@ same_regular t X Y same regular =
 congruent_zero : (a b : ℤ) → (a ≡ b) ↔ Congruent 0 a b
 congruent_zero a b = (λ e. (pos 0, e ∙ omega (arith, ints)), λ (k, e). let nothing : pos 0 *ℤ k ≡ pos 0 = omega (arith, ints) in omega (arith, ints, nothing))
 
-atom_regular : (kind : Kind) (ts : List Term) (c : ℤ) (vs : List ℕ) → IsRegular (length vs) (λ z. Holds (Atom kind ts c) (valuation vs z))
+atom_regular : (kind : Kind) (ts : List Monomial) (c : ℤ) (vs : List ℕ) → IsRegular (length vs) (λ z. Holds (Atom kind ts c) (valuation vs z))
 atom_regular Eq ts c vs = equal_regular (length vs) (λ z. terms_value (valuation vs z) ts) (λ a. terms_value (valuation vs (bits vs a)) ts) (sum_step vs ts) c
 atom_regular Le ts c vs = at_most_regular (length vs) (λ z. terms_value (valuation vs z) ts) (λ a. terms_value (valuation vs (bits vs a)) ts) (sum_step vs ts) c
 atom_regular (Mod zero) ts c vs =

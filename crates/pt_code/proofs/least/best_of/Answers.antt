@@ -7,8 +7,8 @@ use Rattle.pt_code.proofs.least.best_of.Goals as goal
 
 pub loop-entry-init : goal.loop-entry-init
 loop-entry-init c = record {
-  leads = leads-first (component c.args.piece.now) _ c.in_ok-set_best.ensures.entry;
-  best = c.in_ok-set_best.ensures.best;
+  leads = leads-first (component c.args.piece.now) _ c.set_best.ensures.entry;
+  best = c.set_best.ensures.best;
   room = c.in_ok-side.ensures.room;
   other_room = c.in_ok-other.ensures.room;
 }

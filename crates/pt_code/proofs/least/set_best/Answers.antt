@@ -5,7 +5,7 @@ use Rattle.pt_code.proofs.least.set_best.Goals as goal
 
 pub returns-clause-best : goal.returns-clause-best
 returns-clause-best c =
-    let found = c.in_ok-search.ensures in
+    let found = c.search.ensures in
     let all = ap length found.states ∙ order-length (component c.args.piece.now) c.requires.component c.args.entry c.requires.entry c.requires.connected in
     let shown = ap length c.deref-2.ensures.value in
     let few = c.run_of-best.ensures.within in

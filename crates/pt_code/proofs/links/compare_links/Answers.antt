@@ -20,10 +20,10 @@ pub loop-next-init : goal.loop-next-init
 loop-next-init c =
     let p = component c.args.piece.now in
     record {
-      mine = side-start p c.requires.component c.args.entry c.requires.entry _ _ _ c.in_ok-begin.ensures.states c.in_ok-begin.ensures.exits c.in_ok-begin.ensures.numbered;
-      theirs = side-start p c.requires.component c.args.other_entry c.requires.other_entry _ _ _ c.in_ok-begin-2.ensures.states c.in_ok-begin-2.ensures.exits c.in_ok-begin-2.ensures.numbered;
-      room = c.in_ok-begin.ensures.room ∙ c.requires.room;
-      other_room = c.in_ok-begin-2.ensures.room ∙ c.requires.other_room;
+      mine = side-start p c.requires.component c.args.entry c.requires.entry _ _ _ c.begin.ensures.states c.begin.ensures.exits c.begin.ensures.numbered;
+      theirs = side-start p c.requires.component c.args.other_entry c.requires.other_entry _ _ _ c.begin-2.ensures.states c.begin-2.ensures.exits c.begin-2.ensures.numbered;
+      room = c.begin.ensures.room ∙ c.requires.room;
+      other_room = c.begin-2.ensures.room ∙ c.requires.other_room;
       same = λ j h. absurd (omega arith);
     }
 

@@ -17,14 +17,14 @@ loop-state-preserved c =
     let found = c.deref.result.now in
     let targets' = c.extend_from_slice.new.self.items in
     let is_found : found ≡ visit_all [] (near_states (edges_from p q)) =
-    c.deref.ensures.value ∙ c.in_ok-begin_behind.ensures.states ∙ ap (λ (es : List Edge). visit_all [] (near_states es)) c.edges_of.ensures.value in
+    c.deref.ensures.value ∙ c.begin_behind.ensures.states ∙ ap (λ (es : List Edge). visit_all [] (near_states es)) c.edges_of.ensures.value in
     let step : targets' ≡ targets ++ found = c.in_ok-extend_from_slice.ensures.items in
     let count : c.len.result ≡ length targets' = search rules in
     let starts = c.loop-state.starts.items in
     let starts' = c.push-in-loop-state.new.self.items in
     let grown : starts' ≡ starts ++ c.len.result ∷ [] = c.in_ok-push-2.ensures.items in
     record {
-      room = c.in_ok-begin_behind.ensures.room ∙ c.loop-state.invariant.room;
+      room = c.begin_behind.ensures.room ∙ c.loop-state.invariant.room;
       all = let size = ap length grown ∙ length-append starts (c.len.result ∷ []) in let before = c.loop-state.invariant.all in omega (arith, size, before);
       start = starts-more p q c.loop-state-test.true targets found targets' c.loop-state.invariant.items is_found step starts starts' c.len.result c.loop-state.invariant.all c.loop-state.invariant.start count grown;
       items = targets-more p q c.loop-state-test.true targets found targets' c.loop-state.invariant.items is_found step;

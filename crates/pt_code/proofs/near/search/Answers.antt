@@ -23,11 +23,11 @@ loop-next-preserved c =
     let n = c.loop-next.next in
     let met = c.loop-next.invariant.met in
     let in_n : n < c.args.piece.now.states = c.loop-next-test.true in
-    let step = c.in_ok-visit_next.ensures.states ∙ ap (visit_all order) (met-row p c.requires.component c.requires.connected c.args.entry c.requires.entry near.starts.items near.targets.items c.requires.near order n met in_n) in
+    let step = c.visit_next.ensures.states ∙ ap (visit_all order) (met-row p c.requires.component c.requires.connected c.args.entry c.requires.entry near.starts.items near.targets.items c.requires.near order n met in_n) in
     record {
       met = Met-once p c.requires.component c.requires.connected c.args.entry c.requires.entry order c.visit_next.new.order.states.items n met in_n step;
-      numbered = c.in_ok-visit_next.ensures.numbered;
-      room = c.in_ok-visit_next.ensures.room ∙ c.loop-next.invariant.room;
+      numbered = c.visit_next.ensures.numbered;
+      room = c.visit_next.ensures.room ∙ c.loop-next.invariant.room;
     }
 
 pub returns-clause-states : goal.returns-clause-states

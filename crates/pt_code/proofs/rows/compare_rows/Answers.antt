@@ -1,29 +1,28 @@
-use Rattle.std.proofs.Common.{rules, ◌≡◌, ◌<◌, ◌+◌, ◌≤◌, ◌++◌, ◌∷◌, ℕ, List, take, length, length-append, sym, ap, ◌∙◌, subst, arith, get_or}
+use Rattle.std.proofs.Common.{rules, ◌≡◌, ◌<◌, ◌+◌, ◌≤◌, ◌++◌, ℕ, List, take, length, length-append, sym, ap, ◌∙◌, subst, arith, get_or}
 use Rattle.std.specs.Prelude.{All}
-use Rattle.std.specs.List.{flat_map}
 use Rattle.std.proofs.lemmas.List.{take-append-le}
 use Rattle.std.proofs.Math.ListN.{get_or-append}
 use Rattle.pt_sets.specs.Components.{near_states, edges_from}
 use Rattle.pt_sets.proofs.SearchOrder.{order-length}
-use Rattle.pt_code.proofs.Deciding.{rows-decided, rows-verdict}
+use Rattle.pt_code.proofs.Deciding.{rows-decided, rows-same}
 use Rattle.pt_code.specs.Component.{component}
 use Rattle.pt_code.specs.Parts.{row_of}
 use Rattle.pt_code.specs.Searching.{successors, visit_all}
-use Rattle.pt_code.proofs.Queue.{entry-begins, visits-more, order-short, Met-begins, Met-end, Met-within}
+use Rattle.pt_code.proofs.Queue.{entry-begins, visits-more, Met-begins, Met-within}
 use Rattle.pt_code.proofs.Nearby.{All-by, visit-once, Met-inside, Met-once, met-row, near-rows}
-use Rattle.pt_code.proofs.rows.compare_rows.Goals.{then-next-eq0+in-Equal, else-next-eq0}
 use Rattle.pt_code.proofs.rows.compare_rows.Goals as goal
 
 pub loop-next-init : goal.loop-next-init
 loop-next-init c =
     let p = component c.args.piece.now in
-    let first = c.in_ok-begin.ensures.states in
+    let first = c.begin.ensures.states in
     record {
       met = first;
       begins = entry-begins p c.args.entry c.requires.component c.requires.entry _ first;
-      numbered = c.in_ok-begin.ensures.numbered;
-      room = c.in_ok-begin.ensures.room ∙ c.requires.room;
+      numbered = c.begin.ensures.numbered;
+      room = c.begin.ensures.room ∙ c.requires.room;
       compared = omega arith;
+      next = omega arith;
       same = λ i h. absurd (omega arith);
     }
 
@@ -67,42 +66,29 @@ loop-next-preserved c =
     let in_n : n < c.args.piece.now.states = c.loop-next-test.true in
     let new = c.visit_next.new.order.states.items in
     let targets = near_states (edges_from p (get_or order n 0)) in
-    let step : new ≡ visit_all order (successors p (get_or order n 0)) = c.in_ok-visit_next.ensures.states ∙ ap (visit_all order) (met-row p c.requires.component c.requires.connected c.args.entry c.requires.entry near.starts.items near.targets.items c.requires.shape.near order n met in_n) in
+    let step : new ≡ visit_all order (successors p (get_or order n 0)) = c.visit_next.ensures.states ∙ ap (visit_all order) (met-row p c.requires.component c.requires.connected c.args.entry c.requires.entry near.starts.items near.targets.items c.requires.shape.near order n met in_n) in
     let met' = Met-once p c.requires.component c.requires.connected c.args.entry c.requires.entry order new n met in_n step in
     let inside = Met-inside p c.requires.component c.requires.connected c.args.entry c.requires.entry order n met in_n in
     let (x, longer) = visits-more order targets in
     let grown : new ≡ order ++ x = step ∙ visit-once order targets ∙ longer in
     let front : take (n + 1) new ≡ take (n + 1) order = ap (take (n + 1)) grown ∙ take-append-le (n + 1) order x (omega (arith, inside)) in
     let (more, begins) = c.loop-next.invariant.begins in
+    let count : c.len-compared.result ≡ length order = search rules in
     let size = ap length grown ∙ length-append order x in
     record {
       met = met';
       begins = Met-begins p c.args.entry c.requires.component c.requires.entry order new more (n + 1) met' front begins;
-      numbered = c.in_ok-visit_next.ensures.numbered;
-      room = c.in_ok-visit_next.ensures.room ∙ c.loop-next.invariant.room;
-      compared = elim c.if-next-eq0.branch [
-        | then-next-eq0+in-Equal w ↦ let count : w.len-compared.result ≡ length order = search rules in let is = w.compared-is in omega (arith, size, count, is)
-        | else-next-eq0 w ↦ let is = w.compared-is in let old = c.loop-next.invariant.compared in omega (arith, size, is, old)
-      ];
-      same = λ i h. elim c.if-next-eq0.branch [
-        | then-next-eq0+in-Equal w ↦
-            let count : w.len-compared.result ≡ length order = search rules in
-            let is = w.compared-is in
-            let early : i < length order = omega (arith, count, is, h) in
-            let shown : i < length w.deref.result.now = let same = ap length w.deref.ensures.value in omega (arith, same, early) in
-            ap (λ (l : List ℕ). row_of p (get_or l i 0)) grown
-            ∙ ap (row_of p) (get_or-append order x 0 i early)
-            ∙ ap (λ (l : List ℕ). row_of p (get_or l i 0)) (sym w.deref.ensures.value)
-            ∙ w.compare_from-verdict.ensures.same w.in-Equal.is i shown
-        | else-next-eq0 w ↦
-            let is = w.compared-is in
-            let old = c.loop-next.invariant.compared in
-            let early : i < c.loop-next.compared = omega (arith, is, h) in
-            let inside : i < length order = omega (arith, old, early) in
-            ap (λ (l : List ℕ). row_of p (get_or l i 0)) grown
-            ∙ ap (row_of p) (get_or-append order x 0 i inside)
-            ∙ c.loop-next.invariant.same i early
-      ];
+      numbered = c.visit_next.ensures.numbered;
+      room = c.visit_next.ensures.room ∙ c.loop-next.invariant.room;
+      compared = omega (arith, size, count);
+      next = omega (arith, inside, count);
+      same = λ i h.
+          let early : i < length order = omega (arith, count, h) in
+          let shown : i < length c.deref.result.now = let same = ap length c.deref.ensures.value in omega (arith, same, early) in
+          ap (λ (l : List ℕ). row_of p (get_or l i 0)) grown
+          ∙ ap (row_of p) (get_or-append order x 0 i early)
+          ∙ ap (λ (l : List ℕ). row_of p (get_or l i 0)) (sym c.deref.ensures.value)
+          ∙ c.compare_from-verdict.ensures.same c.in-Equal.is i shown;
     }
 
 pub returns-in_default-clause-order : goal.returns-in_default-clause-order
@@ -113,45 +99,16 @@ returns-in_default-clause-order c =
     c.args.best.now.order.states.items c.compare_from-verdict.result c.requires.best.states c.in_default.not-Equal
     (c.compare_from-verdict.ensures.apart c.args.entry more c.requires.entry (begins ∙ ap (λ (l : List ℕ). l ++ more) (sym c.deref.ensures.value)) c.in_default.not-Equal)
 
-pub compare_from-requires : goal.compare_from-requires
-compare_from-requires c =
-    let p = component c.args.piece.now in
-    let order = c.loop-next.order.states.items in
-    let met = c.loop-next.invariant.met in
-    let (more, begins) = c.loop-next.invariant.begins in
-    let size = ap length begins ∙ length-append order more in
-    let all = order-length p c.requires.component c.args.entry c.requires.entry c.requires.connected in
-    let within : All (λ q. q < c.args.piece.now.states) order = All-by (λ q. q < c.args.piece.now.states) order (Met-within p c.args.entry c.requires.component c.requires.entry order c.loop-next.next met) in
-    record {
-      component = c.requires.component;
-      connected = c.requires.connected;
-      shape = c.requires.shape;
-      best = c.requires.best;
-      states = subst (All (λ q. q < c.args.piece.now.states)) (sym c.deref-2.ensures.value) within;
-      few = let shown = ap length c.deref-2.ensures.value in omega (arith, shown, size, all);
-      from = let shown = ap length c.deref-2.ensures.value in omega (arith, shown, c.loop-next.invariant.compared);
-      same = λ i h. ap (λ (l : List ℕ). row_of p (get_or l i 0)) c.deref-2.ensures.value ∙ c.loop-next.invariant.same i h;
-    }
-
 pub returns-clause-order : goal.returns-clause-order
 returns-clause-order c =
     let p = component c.args.piece.now in
     let order = c.loop-next.order.states.items in
-    let met = c.loop-next.invariant.met in
     let (more, begins) = c.loop-next.invariant.begins in
-    let within = Met-within p c.args.entry c.requires.component c.requires.entry order c.loop-next.next met in
-    let short : length order ≤ c.args.piece.now.states = order-short c.args.piece.now.states order (c.args.entry ∷ flat_map (λ q. near_states (edges_from p q)) (take c.loop-next.next order)) met within in
-    let past : c.args.piece.now.states ≤ c.loop-next.next = c.loop-next-test.false in
-    let whole = Met-end p c.args.entry c.requires.component c.requires.connected c.requires.entry order c.loop-next.next met (omega (arith, short, past)) in
-    let shown = ap length c.deref-2.ensures.value in
-    let size = ap length whole in
     let all = order-length p c.requires.component c.args.entry c.requires.entry c.requires.connected in
-    rows-verdict p c.requires.component c.requires.connected c.args.entry c.args.best.now.entry c.requires.entry c.requires.best.within
-    c.args.best.now.order.states.items c.compare_from.result c.requires.best.states
-    (record {
-      same = λ even i h.
-          ap (λ (l : List ℕ). row_of p (get_or l i 0)) (sym whole)
-          ∙ ap (λ (l : List ℕ). row_of p (get_or l i 0)) (sym c.deref-2.ensures.value)
-          ∙ c.compare_from.ensures.same even i (omega (arith, shown, size, all, h));
-      apart = λ apart. (c.compare_from.ensures.apart c.args.entry more c.requires.entry (begins ∙ ap (λ (l : List ℕ). l ++ more) (sym c.deref-2.ensures.value)) apart).apart apart;
-    })
+    let past : c.args.piece.now.states ≤ c.loop-next.next = c.loop-next-test.false in
+    rows-same p c.requires.component c.requires.connected c.args.entry c.args.best.now.entry c.requires.entry c.requires.best.within
+    (λ i h.
+    let early : i < c.loop-next.compared = let next = c.loop-next.invariant.next in omega (arith, past, next, h) in
+    let inside : i < length order = let compared = c.loop-next.invariant.compared in omega (arith, compared, early) in
+    ap (λ (l : List ℕ). row_of p (get_or l i 0)) begins ∙ ap (row_of p) (get_or-append order more 0 i inside) ∙ c.loop-next.invariant.same i early
+    ∙ ap (λ (l : List ℕ). row_of p (get_or l i 0)) c.requires.best.states)

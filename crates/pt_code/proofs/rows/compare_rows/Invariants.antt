@@ -14,5 +14,6 @@ invariant-loop-next l = record {
   numbered : IsNumbered l.order.states.items l.order.places.items;
   room : vec_len l.order.places ≡ l.piece.states;
   compared : l.compared ≤ length l.order.states.items;
+  next : l.next ≤ l.compared;
   same : (i : ℕ) → i < l.compared → row_of (component l.piece) (get_or l.order.states.items i 0) ≡ row_of (component l.piece) (get_or l.best.order.states.items i 0);
 }

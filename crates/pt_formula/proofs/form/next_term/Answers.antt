@@ -1,5 +1,5 @@
 use Rattle.std.proofs.Common.{◌≡◌, ◌<◌, w64, FitsSigned, slice_index_or, pos, length, ◌∙◌, rules, arith}
-use Rattle.pt_formula.specs.Forms.{Term}
+use Rattle.pt_formula.specs.Forms.{Monomial}
 use Rattle.pt_formula.proofs.Wide.{wide, wide_product, sum_handed}
 use Rattle.pt_formula.proofs.TermSums.{read_again, renumbered, next_left, next_right, next_less, next_more, next_same}
 use Rattle.pt_formula.proofs.form.next_term.Goals as goal
@@ -8,7 +8,7 @@ pub returns-then-j-b-clause-term : goal.returns-then-j-b-clause-term
 returns-then-j-b-clause-term c =
     let a = c.args.a.now in
     let i = c.args.i in
-    let t : Term = slice_index_or a i (0, pos 0) in
+    let t : Monomial = slice_index_or a i (0, pos 0) in
     let fits : FitsSigned w64 t.1 = search rules in
     let p : i < length a = search rules in
     next_left a c.args.b.now c.args.by i c.args.j t c.requires.a p (omega (arith, c.if-j-b.true)) (read_again a i (0, pos 0) t p)
@@ -18,7 +18,7 @@ pub returns-then-i-a-clause-term : goal.returns-then-i-a-clause-term
 returns-then-i-a-clause-term c =
     let b = c.args.b.now in
     let j = c.args.j in
-    let u : Term = slice_index_or b j (0, pos 0) in
+    let u : Monomial = slice_index_or b j (0, pos 0) in
     let fits : FitsSigned w64 u.1 = search rules in
     let q : j < length b = search rules in
     next_right c.args.a.now b c.args.by c.args.i j u (omega (arith, c.if-i-a.true)) q (read_again b j (0, pos 0) u q)
@@ -30,8 +30,8 @@ returns-in-Less-clause-term c =
     let b = c.args.b.now in
     let i = c.args.i in
     let j = c.args.j in
-    let t : Term = slice_index_or a i (0, pos 0) in
-    let u : Term = slice_index_or b j (0, pos 0) in
+    let t : Monomial = slice_index_or a i (0, pos 0) in
+    let u : Monomial = slice_index_or b j (0, pos 0) in
     let fits : FitsSigned w64 t.1 = search rules in
     let p : i < length a = search rules in
     let q : j < length b = search rules in
@@ -45,8 +45,8 @@ returns-in-Equal-clause-term c =
     let b = c.args.b.now in
     let i = c.args.i in
     let j = c.args.j in
-    let t : Term = slice_index_or a i (0, pos 0) in
-    let u : Term = slice_index_or b j (0, pos 0) in
+    let t : Monomial = slice_index_or a i (0, pos 0) in
+    let u : Monomial = slice_index_or b j (0, pos 0) in
     let fits : FitsSigned w64 t.1 = search rules in
     let fits_right : FitsSigned w64 u.1 = search rules in
     let p : i < length a = search rules in
@@ -61,8 +61,8 @@ returns-in-Greater-clause-term c =
     let b = c.args.b.now in
     let i = c.args.i in
     let j = c.args.j in
-    let t : Term = slice_index_or a i (0, pos 0) in
-    let u : Term = slice_index_or b j (0, pos 0) in
+    let t : Monomial = slice_index_or a i (0, pos 0) in
+    let u : Monomial = slice_index_or b j (0, pos 0) in
     let fits : FitsSigned w64 u.1 = search rules in
     let p : i < length a = search rules in
     let q : j < length b = search rules in

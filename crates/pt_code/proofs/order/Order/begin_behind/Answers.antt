@@ -5,7 +5,7 @@ use Rattle.pt_sets.specs.Components.{near_states}
 use Rattle.pt_code.specs.Searching.{visit_all}
 use Rattle.pt_code.proofs.Beside.{visits-next, visits-no_edge}
 use Rattle.pt_code.proofs.order.Order.begin_behind.Goals as goal
-use Rattle.pt_code.proofs.order.Order.begin_behind.Goals.{in-Near+in_ok-number, in_default}
+use Rattle.pt_code.proofs.order.Order.begin_behind.Goals.{in-Near, in_default}
 
 pub loop-edge-preserved : goal.loop-edge-preserved
 loop-edge-preserved c =
@@ -14,13 +14,13 @@ loop-edge-preserved c =
     let now = c.loop-edge.self.states.items in
     let inside : i < length edges = c.loop-edge-test.true in
     elim c.match-edge.branch [
-      | in-Near+in_ok-number w ↦
+      | in-Near w ↦
           rw w.self-is
           (record {
             states = visits-next edges i [] now w.number.new.self.states.items inside c.loop-edge.invariant.states
-                (w.in_ok-number.ensures.states ∙ ap (λ (d : Edge). visit_all now (near_states (d ∷ []))) (sym w.in-Near.is));
-            numbered = w.in_ok-number.ensures.numbered;
-            room = w.in_ok-number.ensures.room ∙ c.loop-edge.invariant.room;
+                (w.number.ensures.states ∙ ap (λ (d : Edge). visit_all now (near_states (d ∷ []))) (sym w.in-Near.is));
+            numbered = w.number.ensures.numbered;
+            room = w.number.ensures.room ∙ c.loop-edge.invariant.room;
           })
       | in_default w ↦
           rw w.self-is

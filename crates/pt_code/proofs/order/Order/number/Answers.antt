@@ -2,7 +2,7 @@ use Rattle.std.proofs.Common.{rules, ◌≡◌, ◌<◌, ◌≤◌, ◌∷◌, [
 use Rattle.std.specs.Prelude.{◌==◌}
 use Rattle.std.specs.List.{list_any}
 use Rattle.pt_code.specs.Searching.{IsNumbered}
-use Rattle.pt_code.proofs.Numbering.{numbered-few, numbered-more}
+use Rattle.pt_code.proofs.Numbering.{numbered-few, numbered-more, numbered-room}
 use Rattle.pt_code.proofs.order.Order.number.Goals as goal
 
 pub overflow_cast-place : goal.overflow_cast-place
@@ -12,6 +12,15 @@ overflow_cast-place c =
     let room : length c.args.self.now.places.items ≤ 65536 = search rules in
     omega (arith, few, count, room)
 
+pub push_reserved-requires : goal.push_reserved-requires
+push_reserved-requires c =
+    let states = c.args.self.now.states.items in
+    let places = c.args.self.now.places.items in
+    let none : list_any (◌==◌ c.args.state) states ≡ false = search rules in
+    let within : c.args.state < length places = search rules in
+    let room = numbered-room states places c.requires.numbered c.args.state within none in
+    omega (arith, room, c.args.self.now.reserved, c.args.self.now.states.ok.0, c.args.self.now.places.ok.0)
+
 pub returns-clause-numbered : goal.returns-clause-numbered
 returns-clause-numbered c =
     let states = c.args.self.now.states.items in
@@ -20,6 +29,6 @@ returns-clause-numbered c =
     let none : list_any (◌==◌ c.args.state) states ≡ false = search rules in
     let within : c.args.state < length places = search rules in
     let more = numbered-more states places c.requires.numbered c.args.state within none in
-    let grown : c.push.new.self.items ≡ states ++ c.args.state ∷ [] = search rules in
+    let grown : c.push_reserved.new.self.items ≡ states ++ c.args.state ∷ [] = search rules in
     subst (λ (l : List ℕ). IsNumbered l (set places c.args.state c.len-place.result)) (sym grown)
     (subst (λ (n : ℕ). IsNumbered (states ++ c.args.state ∷ []) (set places c.args.state n)) (sym count) more)
