@@ -1,2 +1,5 @@
 mod Groups
 mod Pieces
+pub mod LastLines
+pub mod Totals
+pub mod Short

@@ -1,5 +1,6 @@
 -- What is written piece by piece.
 use Rattle.std.proofs.Common.{◌≡◌, ◌∙◌, ◌++◌, ℕ, List, [], ◌∷◌, ap, sym, append_assoc}
+use Rattle.pt_drill.specs.Summary.{summary_of}
 
 -- the first piece and a number
 pub first : (start piece number new : List ℕ) → new ≡ start ++ piece ++ number → new ≡ start ++ (piece ++ number)
@@ -23,3 +24,11 @@ line_ends start front piece old new before e =
 pub asked : (a n b end p q d k o : List ℕ)
     → ((((a ++ n) ++ (b ++ (end ++ (p ++ q)))) ++ n) ++ (d ++ (end ++ (k ++ o)))) ≡ ((((((a ++ n) ++ b) ++ end) ++ p) ++ (((q ++ n) ++ d) ++ end)) ++ k) ++ o
 asked a n b end p q d k o = simp append_assoc
+
+-- the numbers of the line that sums up
+pub summed : (start new : List ℕ) (seed size sat unsat states x y z : ℕ) → start ≡ [] → sat ≡ x → unsat ≡ y → states ≡ z → new ≡ start ++ summary_of seed size sat unsat states → new ≡ summary_of seed size x y z
+summed start new seed size sat unsat states x y z none first second third is =
+    is ∙ ap (λ (l : List ℕ). l ++ summary_of seed size sat unsat states) none
+    ∙ ap (λ (n : ℕ). summary_of seed size n unsat states) first
+    ∙ ap (λ (n : ℕ). summary_of seed size x n states) second
+    ∙ ap (λ (n : ℕ). summary_of seed size x y n) third

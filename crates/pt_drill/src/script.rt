@@ -57,7 +57,12 @@ fn write_questions(alloc: Global, out: &mut Vec<u8>, i: u32) -> Result<(), NoMem
 }
 
 /// A number, and what stands before it.
-fn write_number(alloc: Global, out: &mut Vec<u8>, before: &[u8], n: u32) -> Result<(), NoMemory>
+pub(crate) fn write_number(
+    alloc: Global,
+    out: &mut Vec<u8>,
+    before: &[u8],
+    n: u32,
+) -> Result<(), NoMemory>
     ensures { OnOk result (out.new.items ≡ out.old.items ++ before.now ++ decimal n) }
 {
     let digits = format!(in alloc; "{n}")?;

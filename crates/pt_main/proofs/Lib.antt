@@ -1,4 +1,3 @@
-pub mod Numbers
 pub mod WholeText
 pub mod Streaming
 pub mod Stepping
@@ -14,3 +13,6 @@ pub mod OneRun
 pub mod Fronts
 pub mod Existing
 pub mod Works
+pub mod ByMode
+pub mod Drills
+pub mod Defined

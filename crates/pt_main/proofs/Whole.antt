@@ -1,49 +1,38 @@
--- From the words and the source to the text that a run answers.
-use Rattle.std.proofs.Common.{◌≡◌, ℕ, ◌<◌, List, [], ◌∷◌, ◌++◌, length, drop, ◌⊎◌, refl, inl, inr, ap, sym, subst, ◌∙◌, arith, length-append, true}
-use Rattle.std.specs.Prelude.{Option, Some, None, IfSome, codes, decimal}
-use Rattle.std.proofs.lemmas.Fmt.{decimal_injective}
+-- From the source to the text that a run answers.
+use Rattle.std.proofs.Common.{◌≡◌, ◌≢◌, ℕ, ◌<◌, List, [], length, drop, ◌⊎◌, refl, inl, inr, ap, subst, ◌∙◌, arith, length-append, true}
+use Rattle.std.specs.Prelude.{Option, Some, None, IfSome}
 use Rattle.pt_io.specs.Streams.{TookCount}
 use Rattle.pt_sets.specs.Lists.{Lists, Home, list_of}
 use Rattle.pt_script.specs.Texts.{too_long}
 use Rattle.pt_main.specs.declared.status.Status.{Status}
 use Rattle.pt_main.specs.declared.status.Status.TheVariants as status
-use Rattle.pt_main.specs.Options.{GiveBound}
-use Rattle.pt_main.specs.Ending.{OfScript, IfWhole, IfFull, IsEnded, HasRoom, Answers, HasRead}
+use Rattle.pt_main.specs.Ending.{IfWhole, IfFull, IsEnded, HasRoom, Answers, HasRead}
 use Rattle.pt_main.specs.Wanted.{KnowAnswered}
 use Rattle.pt_main.specs.Parts.{EndsWithLine, IsOfText}
 use Rattle.pt_main.proofs.Streaming.{wrote-nothing, wrote-same}
 use Rattle.pt_main.proofs.Endings.{whole, front_of_line, front_of_nothing}
 
--- the words give one bound
-pub one_bound : (words : List (List ℕ)) (m n : ℕ) → GiveBound words m → GiveBound words n → m ≡ n
-one_bound words m n (inl a) (inl b) = a.1 ∙ sym b.1
-one_bound words m n (inl a) (inr b) = absurd (no_words words a.0 b.2)
-  where
-    no_words : {w : List ℕ} (words : List (List ℕ)) → words ≡ [] → words ≡ w ∷ [] → ⊥
-    no_words words none one = let e : [] ≡ _ = sym none ∙ one in cc
-one_bound words m n (inr a) (inl b) = absurd (let e = sym b.0 ∙ a.2 in cc)
-one_bound words m n (inr a) (inr b) =
-    let same : codes "--states=" ++ decimal m ≡ codes "--states=" ++ decimal n = let e = sym a.2 ∙ b.2 in cc in
-    decimal_injective m n (omega (arith, a.1)) (omega (arith, b.1)) (ap (drop 9) same)
+-- what holds of the text that was read holds of what the source tells
+pub of_text : (left after : Option (List ℕ)) (items shown : List ℕ) (P : List ℕ → Type 0) → IfSome left (λ bytes. (items ≡ bytes) × (after ≡ Some [])) → shown ≡ items → P shown → IfSome left P
+of_text None after items shown P read is holds = tt
+of_text (Some text) after items shown P read is holds = subst P (is ∙ read.0) holds
 
--- what holds of the text that was read and of the bound holds of the script
-pub of_text : (left after : Option (List ℕ)) (words : List (List ℕ)) (bound : ℕ) (items shown : List ℕ) (P : List ℕ → ℕ → Type 0) → GiveBound words bound → IfSome left (λ bytes. (items ≡ bytes) × (after ≡ Some [])) → shown ≡ items → P shown bound → OfScript left words P
-of_text None after words bound items shown P gives read is holds = tt
-of_text (Some text) after words bound items shown P gives read is holds =
-    λ n given. subst (P text) (one_bound words bound n gives given) (subst (λ (l : List ℕ). P l bound) (is ∙ read.0) holds)
-
--- what holds of every text and bound
-pub of_any : (left : Option (List ℕ)) (words : List (List ℕ)) (P : List ℕ → ℕ → Type 0) → ((text : List ℕ) (bound : ℕ) → P text bound) → OfScript left words P
-of_any None words P holds = tt
-of_any (Some text) words P holds = λ n given. holds text n
+-- what holds of every text
+pub of_any : (left : Option (List ℕ)) (P : List ℕ → Type 0) → ((text : List ℕ) → P text) → IfSome left P
+of_any None P holds = tt
+of_any (Some text) P holds = holds text
 
 -- what holds of every text that is too long
-pub of_long : (left after : Option (List ℕ)) (words : List (List ℕ)) (P : List ℕ → ℕ → Type 0) → TookCount left after 4194305 → ((text : List ℕ) (bound : ℕ) → 4194304 < length text → P text bound) → OfScript left words P
-of_long None after words P took holds = tt
-of_long (Some text) after words P took holds =
-    λ n given.
+pub of_long : (left after : Option (List ℕ)) (P : List ℕ → Type 0) → TookCount left after 4194305 → ((text : List ℕ) → 4194304 < length text → P text) → IfSome left P
+of_long None after P took holds = tt
+of_long (Some text) after P took holds =
     let size = length-append took.0 took.2.0 in
-    holds text n (omega (arith, took.1, ap length took.2.1, size))
+    holds text (omega (arith, took.1, ap length took.2.1, size))
+
+-- what follows from what is told
+pub if_told : (left : Option (List ℕ)) (P Q : List ℕ → Type 0) → IfSome left P → ((text : List ℕ) → P text → Q text) → IfSome left Q
+if_told None P Q h into = tt
+if_told (Some text) P Q h into = into text h
 
 pub if_full : (how : Status) (P Q : ℕ → Type 0) → IfFull how P → ((shard : ℕ) → P shard → Q shard) → IfFull how Q
 if_full (status.StoreFull shard) P Q h into = into shard h
@@ -108,3 +97,13 @@ completes (status.StoreFull shard) sink_rose limit lists is write full fine room
 pub long_full : (before after : Option (List ℕ)) (how : Status) (P : ℕ → Type 0) → EndsWithLine too_long before after how → IfFull how P
 long_full before after (status.StoreFull shard) P told = absurd told
 long_full before after _ P told = tt
+
+-- a run on a text does not end for its words
+pub of_words : (how : Status) → IsOfText how → how ≢ status.Usage
+of_words status.Usage is e = absurd is
+of_words status.Done is e = cc
+of_words status.Refused is e = cc
+of_words status.ReadFault is e = cc
+of_words status.WriteFault is e = cc
+of_words status.NoMemory is e = cc
+of_words (status.StoreFull shard) is e = cc

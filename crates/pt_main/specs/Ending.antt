@@ -1,15 +1,10 @@
 -- How a run ended.
-use Rattle.std.specs.Prelude.{ℕ, ◌≡◌, ◌≢◌, true, false, Bool, List, [], Option, Some, IfSome, drop, length, ⊤}
+use Rattle.std.specs.Prelude.{ℕ, ◌≡◌, ◌≢◌, true, false, Bool, List, [], Option, Some, drop, length, ⊤}
 use Rattle.pt_io.specs.Streams.{Wrote}
 use Rattle.pt_sets.specs.Lists.{Lists, list_of}
 use Rattle.pt_main.specs.declared.status.Status.{Status}
 use Rattle.pt_main.specs.declared.status.Status.TheVariants.{Done, Refused, Usage, ReadFault, WriteFault, NoMemory, StoreFull}
-use Rattle.pt_main.specs.Options.{GiveBound}
 use Rattle.pt_main.specs.Output.{IsOutput, IsFrontOfOutput}
-
--- P holds of the text, where the source tells it, and of the bound, where the words give one
-abbrev pub OfScript : Option (List ℕ) → List (List ℕ) → (List ℕ → ℕ → Type 0) → Type 0
-OfScript text words P = IfSome text (λ bytes. (bound : ℕ) → GiveBound words bound → P bytes bound)
 
 -- at these statuses the output was written whole
 abbrev pub IfWhole : Status → Type 0 → Type 0

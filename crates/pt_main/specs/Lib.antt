@@ -1,6 +1,6 @@
-pub mod Options
 pub mod Runs
 pub mod Output
 pub mod Wanted
 pub mod Ending
 pub mod Parts
+pub mod Modes

@@ -4,8 +4,11 @@ ghost use Rattle.pt_store.specs.Local.{Size, LocalLists, Owns};
 ghost use Rattle.pt_main.specs.Ending.{HasRoom};
 ghost use Rattle.pt_main.specs.Output.{IsOutput, IsFrontOf, IsFrontOfOutput};
 ghost use Rattle.pt_main.specs.Wanted.{IsWork, IsScriptWork};
+ghost use Rattle.pt_main.specs.Modes.{IsDefined, IsFrontOfDefined};
+ghost use Rattle.pt_options.specs.Options.{AreOptions};
 
 use pt_eval::refusals_are_exact;
+use pt_options::words::options_are_one;
 use pt_read::laws::{commands_that_are_read_fit, scopes_stay_sound};
 use pt_script::laws::commands_have_a_reply_or_a_refusal;
 
@@ -46,4 +49,28 @@ pub fn work_is_within_that_of_the_script()
     scopes_stay_sound();
     commands_that_are_read_fit();
     commands_have_a_reply_or_a_refusal();
+}
+
+/// Words and the bytes of a source define at most one output and one status.
+pub fn definitions_are_one()
+    ensures { (words : List (List ℕ)) (bytes one two : List ℕ) (first second : Bool) → IsDefined words bytes one first → IsDefined words bytes two second → (one ≡ two) × (first ≡ second) }
+{
+    options_are_one();
+    outputs_are_one();
+}
+
+/// Words that give options define an output and a status for all bytes of a source.
+pub fn options_have_outputs()
+    ensures { (words : List (List ℕ)) (bytes : List ℕ) → AreOptions words → (out : List ℕ) × (refused : Bool) × IsDefined words bytes out refused }
+{
+    texts_have_outputs();
+}
+
+/// What a run that is cut off has written is a prefix of the output that its words and bytes define.
+pub fn fronts_of_definitions_are_prefixes()
+    ensures { (words : List (List ℕ)) (bytes front out : List ℕ) (refused : Bool) → IsFrontOfDefined words bytes front → IsDefined words bytes out refused → IsFrontOf front out }
+{
+    options_are_one();
+    outputs_are_one();
+    fronts_are_prefixes();
 }

@@ -1,8 +1,9 @@
 //! Scripts from bytes to bytes.
 #![tactic(auto)]
 
+mod drilling;
 pub mod laws;
-mod options;
+mod memory;
 mod script;
 mod status;
 #[cfg(test)]

@@ -11,6 +11,7 @@ use std::thread::Threads;
 mod bool_definitions;
 mod bool_quantifiers;
 mod bools;
+mod drills;
 mod laws;
 mod sets;
 
@@ -237,7 +238,7 @@ fn a_script_of_many_commands(rt: HostRuntime) -> Result<(), Fail> {
 }
 
 /// How a run ends, and what it has written, whose source and sink each fail at one call and whose store has one shard.
-fn ending(
+pub(crate) fn ending(
     rt: &(impl Threads + Sync),
     alloc: Global,
     words: &str,
@@ -269,7 +270,7 @@ fn ending(
     Ok((status, written, codes))
 }
 
-const NEVER: u64 = 100_000_000;
+pub(crate) const NEVER: u64 = 100_000_000;
 
 #[test]
 fn runs_that_end_otherwise(rt: HostRuntime) -> Result<(), Fail> {

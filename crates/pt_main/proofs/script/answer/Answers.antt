@@ -12,11 +12,11 @@ use Rattle.pt_main.proofs.Endings.{front_of_nothing, done, done_known, refused, 
 use Rattle.pt_main.proofs.script.answer.Goals as goal
 
 pub returns-in_default-clause-answer : goal.returns-in_default-clause-answer
-returns-in_default-clause-answer g c = front_of_nothing c.args.text.now c.args.bound (g.K.Sink.written c.args.sink.now)
+returns-in_default-clause-answer g c = front_of_nothing c.args.text.now c.args.given.states (g.K.Sink.written c.args.sink.now)
 
 pub commands-init : goal.commands-init
 commands-init g c = record {
-  underway = begins_at c.args.text.now c.args.bound g.I.Pass.Codes.home (g.K.Sink.written c.args.sink.now) (g.I.Pass.Codes.lists c.args.pass.now) (g.I.Pass.Codes.offered c.args.pass.now) c.in-Ok.session c.new-reader.result c.in-Ok.ensures c.new-reader.ensures c.requires.size;
+  underway = begins_at c.args.text.now c.args.given.states g.I.Pass.Codes.home (g.K.Sink.written c.args.sink.now) (g.I.Pass.Codes.lists c.args.pass.now) (g.I.Pass.Codes.offered c.args.pass.now) c.in-Ok.session c.new-reader.result c.in-Ok.ensures c.new-reader.ensures c.requires.size;
   low = low_first c.texts_give_out_few_numbers.ensures.whole c.args.text.now c.in-Ok.session c.new-reader.result c.in-Ok.ensures c.new-reader.ensures c.requires.size;
   counted = omega arith;
   extends = Extends-refl (g.I.Pass.Codes.lists c.args.pass.now);
@@ -41,13 +41,13 @@ answer_command-told-requires-clause-depth g c κs within =
 pub returns-in-Some-clause-answer : goal.returns-in-Some-clause-answer
 returns-in-Some-clause-answer g c =
     let answer = rw c.in-Ok-Some.field-0-is at c.in-Ok-Some.ensures.answer in
-    let told = subst (λ (t : Standing). CommandTold t c.in-Ok-Some.command c.args.bound c.answer_command-told.new.session (g.K.Sink.written c.commands.sink) (g.K.Sink.written c.answer_command-told.new.sink) (Some c.in-Some.status)) c.read_command.ensures.rest c.in-Some.ensures.told in
+    let told = subst (λ (t : Standing). CommandTold t c.in-Ok-Some.command c.args.given.states c.answer_command-told.new.session (g.K.Sink.written c.commands.sink) (g.K.Sink.written c.answer_command-told.new.sink) (Some c.in-Some.status)) c.read_command.ensures.rest c.in-Some.ensures.told in
     ends_with (read c.commands.invariant.underway c.in-Ok-Some.command c.read_command.new.self.scope (left c.read_command.new.reader) answer c.read_command.ensures.adds) c.answer_command-told.new.session (g.K.Sink.written c.answer_command-told.new.sink) c.in-Some.status told
 
 pub returns-in-Some-clause-known : goal.returns-in-Some-clause-known
 returns-in-Some-clause-known g c =
     let answer = rw c.in-Ok-Some.field-0-is at c.in-Ok-Some.ensures.answer in
-    let told = subst (λ (t : Standing). CommandTold t c.in-Ok-Some.command c.args.bound c.answer_command-told.new.session (g.K.Sink.written c.commands.sink) (g.K.Sink.written c.answer_command-told.new.sink) (Some c.in-Some.status)) c.read_command.ensures.rest c.in-Some.ensures.told in
+    let told = subst (λ (t : Standing). CommandTold t c.in-Ok-Some.command c.args.given.states c.answer_command-told.new.session (g.K.Sink.written c.commands.sink) (g.K.Sink.written c.answer_command-told.new.sink) (Some c.in-Some.status)) c.read_command.ensures.rest c.in-Some.ensures.told in
     ends_known (read c.commands.invariant.underway c.in-Ok-Some.command c.read_command.new.self.scope (left c.read_command.new.reader) answer c.read_command.ensures.adds) c.longer_lists_know.ensures c.answer_command-told.new.session (g.K.Sink.written c.answer_command-told.new.sink) c.in-Some.status (g.I.Pass.Codes.lists c.answer_command-told.new.pass) c.in-Some.ensures.extends told c.in-Some.ensures.asked
 
 pub returns-in-Some-clause-offers : goal.returns-in-Some-clause-offers
@@ -69,10 +69,10 @@ returns-in-Err-clause-known g c =
 pub commands-preserved : goal.commands-preserved
 commands-preserved g c =
     let answer = rw c.in-Ok-Some.field-0-is at c.in-Ok-Some.ensures.answer in
-    let told = subst (λ (t : Standing). CommandTold t c.in-Ok-Some.command c.args.bound c.answer_command-told.new.session (g.K.Sink.written c.commands.sink) (g.K.Sink.written c.answer_command-told.new.sink) None) c.read_command.ensures.rest c.in-None.ensures.told in
+    let told = subst (λ (t : Standing). CommandTold t c.in-Ok-Some.command c.args.given.states c.answer_command-told.new.session (g.K.Sink.written c.commands.sink) (g.K.Sink.written c.answer_command-told.new.sink) None) c.read_command.ensures.rest c.in-None.ensures.told in
     record {
       underway = goes_on (read c.commands.invariant.underway c.in-Ok-Some.command c.read_command.new.self.scope (left c.read_command.new.reader) answer c.read_command.ensures.adds) c.longer_lists_know.ensures told.1.0 c.answer_command-told.new.session told.1.1 told.0 (g.K.Sink.written c.answer_command-told.new.sink) told.1.2 (g.I.Pass.Codes.lists c.answer_command-told.new.pass) c.in-None.ensures.extends c.in-None.ensures.asked (g.I.Pass.Codes.offered c.answer_command-told.new.pass) c.in-None.ensures.offers;
-      low = low_next c.texts_give_out_few_numbers.ensures.given c.texts_give_out_few_numbers.ensures.fewer c.commands_push_few_levels.ensures c.in-Ok-Some.command (left c.commands.reader) (left c.read_command.new.reader) c.commands.session c.answer_command-told.new.session c.read_command.new.self.scope c.args.bound told.1.0 c.commands.invariant.low answer told.1.1;
+      low = low_next c.texts_give_out_few_numbers.ensures.given c.texts_give_out_few_numbers.ensures.fewer c.commands_push_few_levels.ensures c.in-Ok-Some.command (left c.commands.reader) (left c.read_command.new.reader) c.commands.session c.answer_command-told.new.session c.read_command.new.self.scope c.args.given.states told.1.0 c.commands.invariant.low answer told.1.1;
       counted = omega (arith, c.commands.invariant.counted, c.in-None.ensures.counted);
       extends = Extends-trans _ _ _ c.commands.invariant.extends c.in-None.ensures.extends;
       kept = c.in-None.ensures.kept;

@@ -8,7 +8,7 @@ use Rattle.pt_main.proofs.script.answer.Given as goal
 
 abbrev pub invariant-commands : goal.invariant-commands
 invariant-commands g l = record {
-  underway : IsUnderway l.text l.bound g.I.Pass.Codes.home (g.K.Sink.written l.initial.sink) (g.K.Sink.written l.sink) (g.I.Pass.Codes.lists l.pass) (g.I.Pass.Codes.offered l.initial.pass) (g.I.Pass.Codes.offered l.pass) l.session (left l.reader);
+  underway : IsUnderway l.text l.given.states g.I.Pass.Codes.home (g.K.Sink.written l.initial.sink) (g.K.Sink.written l.sink) (g.I.Pass.Codes.lists l.pass) (g.I.Pass.Codes.offered l.initial.pass) (g.I.Pass.Codes.offered l.pass) l.session (left l.reader);
   low : IsLow l.session.scope (left l.reader);
   counted : g.K.Sink.faults l.initial.sink ≤ g.K.Sink.faults l.sink;
   extends : Extends (g.I.Pass.Codes.lists l.initial.pass) (g.I.Pass.Codes.lists l.pass);
