@@ -1,5 +1,5 @@
 // Making a set known.
-ghost use Rattle.std.specs.Prelude.{◌≡◌, ℕ, ◌+◌, ◌<◌, ◌≤◌, List, length, IfOk, IfErr, OnOk};
+ghost use Rattle.std.specs.Prelude.{◌≡◌, ℕ, ◌+◌, ◌<◌, ◌≤◌, length, IfOk, IfErr, OnOk};
 ghost use Rattle.pt_sets.specs.Automata.{SetOfState, IsReduced};
 ghost use Rattle.pt_sets.specs.Lists.{Extends};
 ghost use Rattle.pt_scc.specs.Components.{AreComponents, IsEdge, lists_of};
