@@ -1,6 +1,6 @@
 -- From the options that were read to those that the words give, by their mode.
 use Rattle.std.proofs.Common.{◌≡◌, ℕ, ◌≤◌, List, [], refl, inl, inr, sym, subst, ◌∙◌, arith}
-use Rattle.std.specs.Prelude.{Option, Some, None, IfSome}
+use Rattle.std.specs.Prelude.{Option, Some, None, IfSome, codes}
 use Rattle.pt_options.specs.declared.given.Mode.{Mode}
 use Rattle.pt_options.specs.declared.given.Mode.TheVariants.{Solve, Drill}
 use Rattle.pt_options.specs.declared.given.Options.{Options}
@@ -25,8 +25,8 @@ small words Drill seed size gives = gives.1.1
 
 pub in_range : (words : List (List ℕ)) (o : Options) → GiveOptions words o → AreInRange o
 in_range words o gives =
-    let states = in_bounds words _ 1 65536 16384 o.states gives.states (omega arith) (omega arith) in
-    let workers = in_bounds words _ 1 16 1 o.workers gives.workers (omega arith) (omega arith) in
+    let states = in_bounds words (codes "states") 1 65536 16384 o.states gives.states (omega arith) (omega arith) in
+    let workers = in_bounds words (codes "workers") 1 16 1 o.workers gives.workers (omega arith) (omega arith) in
     record {
       some_state = omega (arith, states.0);
       few_states = states.1;
