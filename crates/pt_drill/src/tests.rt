@@ -1,7 +1,7 @@
 // Scripts of mode drill, against the text of one and a plain program.
 ghost use Rattle.std.specs.Prelude.{◌<◌};
 
-use crate::drill_script;
+use crate::{drill_script, last_line, summary};
 use std::alloc::{AllocError, Global};
 use std::test::Fail;
 
@@ -75,5 +75,25 @@ fn scripts_of_many_groups(rt: HostRuntime) -> Result<(), Fail> {
         let plain = plain_script(alloc, u64::from(seed), u64::from(size))?;
         assert!(rt; text.as_slice() == plain.as_bytes(), "{seed} {size}");
     }
+    Ok(())
+}
+
+#[test]
+fn the_line_of_an_output(rt: HostRuntime) -> Result<(), Fail> {
+    let alloc = rt.alloc();
+    let output = b"3\nsat\n20\nunsat\n1\nsat\nsat 7\n";
+    let line = summary(alloc, 5, 3, output.as_slice())
+        .ok()
+        .ok_or("no memory")?;
+    assert_eq!(rt;
+        line.as_slice(),
+        b"drill 5 3: 2 sat, 1 unsat, 24 states\n".as_slice()
+    );
+    let refused = b"sat\n(error \"1:1: pop\")\n";
+    assert_eq!(rt;
+        last_line(refused.as_slice()),
+        b"(error \"1:1: pop\")\n".as_slice()
+    );
+    assert_eq!(rt; last_line(b"sat".as_slice()), b"sat".as_slice());
     Ok(())
 }
