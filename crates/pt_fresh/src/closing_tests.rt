@@ -10,7 +10,9 @@ use crate::samples::{
     HERE, Shape, absolute, chosen, form, holds, is_only_at, multiple, quotient, related, rest,
     shown,
 };
-use crate::{Relation, Side, Term, TermFault, close, compare, divide, magnitude, remainder};
+use crate::{
+    Relation, Side, Term, TermFault, choice, close, compare, divide, magnitude, remainder,
+};
 use pt_formula::{Form, Formula, Kind, NoMemory, NodeId, Terms, Var};
 use std::alloc::Global;
 use std::test::Fail;
@@ -135,6 +137,28 @@ fn wide(formula: &mut Formula, alloc: Global, n: i64) -> Result<Refusals, TermFa
     Ok((quotient, rest, absolute))
 }
 
+// The refusals of a node over the variables 1 to 8: where a choice of variable 0 is made by it, and where it is closed by a definition of
+// variable 1 over variable 0.
+fn crowded(
+    formula: &mut Formula,
+    alloc: Global,
+) -> Result<(Option<TermFault>, Option<TermFault>), TermFault> {
+    let a = eight(alloc)?;
+    let number = form_of_number(alloc, 0);
+    let body = compare(formula, alloc, Relation::Equal, &a, &number, HERE)?;
+    if is_free(formula, 0, body) {
+        return Ok((None, None));
+    }
+    let chosen = choice(formula, alloc, 0, body, &number, &number, HERE).err();
+    let x = form_of_variable(alloc, 0)?;
+    let definition = divide(formula, alloc, 1, &x, 3, HERE)?;
+    if body >= formula.len() {
+        return Ok((None, None));
+    }
+    let closed = close(formula, alloc, body, &[(1, definition)], HERE).err();
+    Ok((chosen, closed))
+}
+
 const LEAST: i64 = -0x8000_0000_0000_0000;
 
 const GREATEST: i64 = 0x7fff_ffff_ffff_ffff;
@@ -176,7 +200,8 @@ fn nine_variables_and_too_many_nodes_are_refused(rt: HostRuntime) -> Result<(), 
     let f = &mut formula;
     assert!(rt; wide(f, alloc, LEAST)? == (coefficient, coefficient, tracks) && f.len() == 2);
     assert!(rt; wide(f, alloc, 2)? == (tracks, tracks, tracks) && f.len() == 6);
-    for _ in 6..65534 {
+    assert!(rt; crowded(f, alloc)? == (tracks, tracks) && f.len() == 11);
+    for _ in 11..65534 {
         let _ = f.truth(alloc, true, HERE)?;
     }
     assert!(rt; quotient(f, alloc, 1, 0, 2).err() == nodes && f.len() == 65536);

@@ -9,7 +9,7 @@ use crate::{Relation, TermFault, choice, compare, divide, divisible, magnitude, 
 use pt_formula::{Form, Formula, Kind, NoMemory, Node, NodeId, Position, Terms, Var};
 use std::alloc::Global;
 
-pub const HERE: Position = Position { line: 2, column: 7 };
+pub(crate) const HERE: Position = Position { line: 2, column: 7 };
 
 // The values of variables 0, 1 and 2.
 type Values = [i64; 3];
@@ -41,7 +41,7 @@ fn compares(kind: Kind, sum: i128, constant: i64) -> bool {
 }
 
 // Whether a node holds, where the values of bound variables are sought from -12 to 12.
-pub fn holds(formula: &Formula, id: NodeId, values: Values) -> bool {
+pub(crate) fn holds(formula: &Formula, id: NodeId, values: Values) -> bool {
     if id >= formula.len() {
         return false;
     }
@@ -74,7 +74,7 @@ pub fn holds(formula: &Formula, id: NodeId, values: Values) -> bool {
 }
 
 // Whether a node holds at one value of variable 1 alone, of those from -40 to 40.
-pub fn is_only_at(formula: &Formula, id: NodeId, x: i64, wanted: i64) -> bool {
+pub(crate) fn is_only_at(formula: &Formula, id: NodeId, x: i64, wanted: i64) -> bool {
     for v in -40i64..41 {
         if holds(formula, id, [x, v, 0]) != (v == wanted) {
             return false;
@@ -84,7 +84,7 @@ pub fn is_only_at(formula: &Formula, id: NodeId, x: i64, wanted: i64) -> bool {
 }
 
 // A multiple of variable 0 and a constant.
-pub fn form(alloc: Global, by: i64, constant: i64) -> Result<Form, NoMemory>
+pub(crate) fn form(alloc: Global, by: i64, constant: i64) -> Result<Form, NoMemory>
     requires { by ≢ pos 0 }
     ensures form { IfOk result IsForm }
     ensures other { IfOk result (λ f. names 1 f ≡ false) }
@@ -97,7 +97,7 @@ pub fn form(alloc: Global, by: i64, constant: i64) -> Result<Form, NoMemory>
 }
 
 // Variable 1 is the quotient of a form of variable 0.
-pub fn quotient(
+pub(crate) fn quotient(
     formula: &mut Formula,
     alloc: Global,
     by: i64,
@@ -112,7 +112,7 @@ pub fn quotient(
 }
 
 // Variable 1 is the remainder of a form of variable 0.
-pub fn rest(
+pub(crate) fn rest(
     formula: &mut Formula,
     alloc: Global,
     by: i64,
@@ -127,7 +127,7 @@ pub fn rest(
 }
 
 // Variable 1 is the absolute value of a form of variable 0.
-pub fn absolute(
+pub(crate) fn absolute(
     formula: &mut Formula,
     alloc: Global,
     by: i64,
@@ -141,7 +141,7 @@ pub fn absolute(
 }
 
 // Variable 1 is x where a node holds, and else 3 - x; node 0 where that node is not there or has variable 1.
-pub fn chosen(formula: &mut Formula, alloc: Global, c: NodeId) -> Result<NodeId, TermFault> {
+pub(crate) fn chosen(formula: &mut Formula, alloc: Global, c: NodeId) -> Result<NodeId, TermFault> {
     if c >= formula.len() {
         return Ok(0);
     }
@@ -154,7 +154,7 @@ pub fn chosen(formula: &mut Formula, alloc: Global, c: NodeId) -> Result<NodeId,
 }
 
 // How x and a constant compare with a number.
-pub fn related(
+pub(crate) fn related(
     formula: &mut Formula,
     alloc: Global,
     relation: Relation,
@@ -167,7 +167,7 @@ pub fn related(
 }
 
 // That a number from 1 to 9 divides x and a constant.
-pub fn multiple(
+pub(crate) fn multiple(
     formula: &mut Formula,
     alloc: Global,
     n: u64,
@@ -182,7 +182,7 @@ pub fn multiple(
 
 // A node that is made here; an atom by its coefficients of variables 0 and 1, and its constant.
 #[derive(Clone, Copy, Debug, PartialEq, Eq)]
-pub enum Shape {
+pub(crate) enum Shape {
     Other,
     Atom(Kind, i64, i64, i64),
     Not(NodeId),
@@ -200,7 +200,7 @@ fn coefficient(terms: &[(Var, i64)], v: Var) -> i64 {
     0
 }
 
-pub fn shown(formula: &Formula, id: NodeId) -> Shape {
+pub(crate) fn shown(formula: &Formula, id: NodeId) -> Shape {
     if id >= formula.len() || formula.position(id) != HERE {
         return Shape::Other;
     }
