@@ -6,3 +6,6 @@ mod memo;
 
 pub use answer::Answer;
 pub use memo::Memo;
+
+#[cfg(test)]
+mod tests;
