@@ -9,7 +9,7 @@ pub returns-in_default-clause-answer : goal.returns-in_default-clause-answer
 returns-in_default-clause-answer g c = drills_nothing c.args.given (drill_text c.args.given.seed c.args.given.size) (g.K.Sink.written c.args.sink.now)
 
 pub answer-requires-clause-size : goal.answer-requires-clause-size
-answer-requires-clause-size g c =
+answer-requires-clause-size g c κs within =
     subst (λ (text : List ℕ). length text ≤ 4194304) (sym (c.as_slice.ensures.value ∙ c.in-Ok.ensures)) (c.scripts_are_short.ensures c.args.given.seed c.args.given.size c.requires.range.small)
 
 -- ---- the script was answered
@@ -25,9 +25,9 @@ returns-in-Done-clause-lack g c = summed_full _ (g.K.Sink.written c.args.sink.no
 
 pub returns-in-Done-clause-answer : goal.returns-in-Done-clause-answer
 returns-in-Done-clause-answer g c =
-    summed c.args.given (drill_text c.args.given.seed c.args.given.size) c.as_slice-2.result.now (g.K.Sink.written c.args.sink.now) (g.K.Sink.written c.sum_up.new.sink) c.sum_up.result
-    (whole_output c.in-Ok.script.items (drill_text c.args.given.seed c.args.given.size) c.as_slice.result.now c.args.given.states false c.new-output.result.bytes.items c.answer.new.sink.bytes.items c.as_slice-2.result.now
-    c.in-Ok.ensures c.as_slice.ensures.value c.new-output.ensures c.in-Done.ensures.answer c.as_slice-2.ensures.value)
+    summed c.args.given (drill_text c.args.given.seed c.args.given.size) c.as_slice-in-Done.result.now (g.K.Sink.written c.args.sink.now) (g.K.Sink.written c.sum_up.new.sink) c.sum_up.result
+    (whole_output c.in-Ok.script.items (drill_text c.args.given.seed c.args.given.size) c.as_slice.result.now c.args.given.states false c.new-output.result.bytes.items c.answer.new.sink.bytes.items c.as_slice-in-Done.result.now
+    c.in-Ok.ensures c.as_slice.ensures.value c.new-output.ensures c.in-Done.ensures.answer c.as_slice-in-Done.ensures.value)
     c.sum_up.ensures.told
 
 pub returns-in-Done-clause-known : goal.returns-in-Done-clause-known
@@ -51,9 +51,9 @@ returns-in-Refused-clause-lack g c = line_full _ (g.K.Sink.written c.args.sink.n
 
 pub returns-in-Refused-clause-answer : goal.returns-in-Refused-clause-answer
 returns-in-Refused-clause-answer g c =
-    refused_drill c.args.given (drill_text c.args.given.seed c.args.given.size) c.as_slice-2.result.now c.last_line.result.now (g.K.Sink.written c.args.sink.now) (g.K.Sink.written c.end_with.new.sink) c.end_with.result
-    (whole_output c.in-Ok.script.items (drill_text c.args.given.seed c.args.given.size) c.as_slice.result.now c.args.given.states true c.new-output.result.bytes.items c.answer.new.sink.bytes.items c.as_slice-2.result.now
-    c.in-Ok.ensures c.as_slice.ensures.value c.new-output.ensures c.in-Refused.ensures.answer c.as_slice-2.ensures.value)
+    refused_drill c.args.given (drill_text c.args.given.seed c.args.given.size) c.as_slice-in-Refused.result.now c.last_line.result.now (g.K.Sink.written c.args.sink.now) (g.K.Sink.written c.end_with.new.sink) c.end_with.result
+    (whole_output c.in-Ok.script.items (drill_text c.args.given.seed c.args.given.size) c.as_slice.result.now c.args.given.states true c.new-output.result.bytes.items c.answer.new.sink.bytes.items c.as_slice-in-Refused.result.now
+    c.in-Ok.ensures c.as_slice.ensures.value c.new-output.ensures c.in-Refused.ensures.answer c.as_slice-in-Refused.ensures.value)
     c.last_line.ensures c.end_with.ensures.told
 
 pub returns-in-Refused-clause-known : goal.returns-in-Refused-clause-known
@@ -79,9 +79,9 @@ returns-in-StoreFull-clause-offers g c =
 
 -- ---- there is no memory
 
-pub returns-in_default-2-clause-answer : goal.returns-in_default-2-clause-answer
-returns-in_default-2-clause-answer g c = drills_nothing c.args.given (drill_text c.args.given.seed c.args.given.size) (g.K.Sink.written c.args.sink.now)
+pub returns-clause-answer : goal.returns-clause-answer
+returns-clause-answer g c = drills_nothing c.args.given (drill_text c.args.given.seed c.args.given.size) (g.K.Sink.written c.args.sink.now)
 
-pub returns-in_default-2-clause-offers : goal.returns-in_default-2-clause-offers
-returns-in_default-2-clause-offers g c =
+pub returns-clause-offers : goal.returns-clause-offers
+returns-clause-offers g c =
     subst (λ (text : List ℕ). OffersWithin text c.args.given.states (g.I.Pass.Codes.offered c.args.pass.now) (g.I.Pass.Codes.offered c.answer.new.pass)) (c.as_slice.ensures.value ∙ c.in-Ok.ensures) c.answer.ensures.offers

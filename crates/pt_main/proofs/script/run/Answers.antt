@@ -15,7 +15,7 @@ use Rattle.pt_main.proofs.script.run.Goals as goal
 -- ---- mode solve
 
 pub solve-requires-clause-range : goal.solve-requires-clause-range
-solve-requires-clause-range g c = in_range (map string_bytes c.args.words.now) c.in-Ok.given c.in-Ok.ensures.given
+solve-requires-clause-range g c κs within = in_range (map string_bytes c.args.words.now) c.in-Ok.given c.in-Ok.ensures.given
 
 pub returns-in-Solve-clause-refuses : goal.returns-in-Solve-clause-refuses
 returns-in-Solve-clause-refuses g c = λ none. absurd (none (c.in-Ok.given, c.in-Ok.ensures.given))
@@ -60,7 +60,7 @@ returns-in-Solve-clause-complete g c = λ options. c.solve.ensures.complete
 -- ---- mode drill
 
 pub drill-requires-clause-range : goal.drill-requires-clause-range
-drill-requires-clause-range g c = in_range (map string_bytes c.args.words.now) c.in-Ok.given c.in-Ok.ensures.given
+drill-requires-clause-range g c κs within = in_range (map string_bytes c.args.words.now) c.in-Ok.given c.in-Ok.ensures.given
 
 pub returns-in-Drill-clause-refuses : goal.returns-in-Drill-clause-refuses
 returns-in-Drill-clause-refuses g c = λ none. absurd (none (c.in-Ok.given, c.in-Ok.ensures.given))
