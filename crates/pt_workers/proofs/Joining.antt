@@ -7,7 +7,8 @@ use Rattle.std.proofs.lemmas.List.Concat.{flat_map-append}
 use Rattle.pt_sets.specs.Lists.{Lists, Extends, IsWithin}
 use Rattle.pt_store.specs.declared.fault.StoreFault.{StoreFault}
 use Rattle.pt_workers.specs.declared.hands.Report.{Report}
-use Rattle.pt_workers.specs.Works.{AreTold, RefusesOnly, Some_of, no_memory}
+use Rattle.pt_store.specs.Interning.{no_memory}
+use Rattle.pt_workers.specs.Works.{AreTold, RefusesOnly, Some_of}
 use Rattle.pt_workers.specs.Reports.{reported}
 use Rattle.std.specs.List.Sorted.{IsPermutation}
 use Rattle.pt_workers.proofs.Dealing.{told-longer, told-both, told-moved, some-moved}

@@ -37,7 +37,3 @@ RefusesOnly limit lists P NoMemory = Unit {0}
 -- one of the numbers has the property
 abbrev pub Some_of : List ℕ → (ℕ → Type 0) → Type 0
 Some_of numbers P = (number : ℕ) × Contains numbers number × P number
-
--- the refusal for want of memory
-abbrev pub no_memory : StoreFault
-no_memory = NoMemory

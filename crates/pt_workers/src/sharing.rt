@@ -42,8 +42,12 @@ pub(crate) fn work_through<I: Interner, W: Work>(
 }
 
 /// Works on numbers by so many workers at most: number j of them, from 0, is the work of worker j mod `workers`. Each worker
-/// that has a number works through a pass of its own, in a thread of its own where one can be made. The passes are joined
-/// in the order of the workers. One number, or one worker, is worked on the caller's thread, without a split.
+/// that has a number works through a pass of its own, in a thread of its own where one can be made, and ends at its first
+/// number that is refused. The passes are joined in the order of the workers, also where one of them was refused. Answers
+/// come worker by worker, each with its number. One number, or one worker, is worked on the caller's thread, without a split.
+///
+/// Want of memory goes before a full shard, and the full shard of an earlier worker before that of a later one. Beside the
+/// work itself it takes time linear in the numbers, and a split and a join for each worker that has one.
 pub fn share<I: Sharing, W: Work + Sync, R: Threads + Sync>(
     rt: &R,
     alloc: Global,

@@ -5,7 +5,7 @@ ghost use Rattle.pt_sets.specs.Lists.{Lists, find, Extends, IsWithin};
 
 use crate::*;
 use pt_code::{Code, Place, read_code};
-use pt_store::{Codes, InTurns, Interner, OneShard, Sharing, SharedStore, StoreFault};
+use pt_store::{Codes, InTurns, Interner, OneShard, SharedStore, Sharing, StoreFault};
 use std::alloc::{AllocError, Global};
 use std::sync::Arc;
 use std::test::Fail;
