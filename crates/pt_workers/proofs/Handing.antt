@@ -1,7 +1,6 @@
 -- From numbers that were dealt to what is reported of them.
 use Rattle.std.proofs.Common.{◌≡◌, ℕ, zero, suc, ◌<◌, List, [], ◌∷◌, ◌++◌, length, refl, ap, sym, subst, ◌∙◌, arith}
 use Rattle.std.specs.Prelude.{All, slice_index_or}
-use Rattle.std.specs.List.{flat_map}
 use Rattle.std.specs.Global.{Vec}
 use Rattle.pt_sets.specs.Lists.{Lists}
 use Rattle.pt_workers.specs.declared.hands.Hand.{Hand}

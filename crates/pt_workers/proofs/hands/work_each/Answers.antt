@@ -1,4 +1,4 @@
-use Rattle.std.proofs.Common.{◌≡◌, sym, subst}
+use Rattle.std.proofs.Common.{sym, subst}
 use Rattle.std.specs.Prelude.{slice_index_or}
 use Rattle.pt_workers.specs.declared.hands.Hand.{Hand}
 use Rattle.pt_workers.specs.Reports.{IsReportFor}

@@ -1,9 +1,9 @@
-use Rattle.std.proofs.Common.{◌≡◌, ◌+◌, ◌<◌, ◌≤◌, ◌++◌, ◌∷◌, [], ℕ, List, length, map, take, sym, subst, ◌∙◌, arith}
-use Rattle.std.specs.Prelude.{All, slice_index, sum_by}
+use Rattle.std.proofs.Common.{◌≡◌, ◌+◌, ℕ, take, sym, ◌∙◌}
+use Rattle.std.specs.Prelude.{slice_index}
 use Rattle.std.proofs.lemmas.List.{take_all}
 use Rattle.std.proofs.lemmas.List.Elements.{Contains-get_or}
 use Rattle.pt_sets.proofs.ListLaws.{Extends-trans}
-use Rattle.pt_workers.specs.Works.{AreTold, Some_of}
+use Rattle.pt_workers.specs.Works.{Some_of}
 use Rattle.pt_workers.proofs.Dealing.{take-next, told-push, numbers-push, told-in_order}
 use Rattle.pt_workers.proofs.Refusing.{refuses-moved, offers-next, offers-front}
 use Rattle.pt_workers.proofs.sharing.work_through.Goals as goal
