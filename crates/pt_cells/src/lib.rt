@@ -2,13 +2,17 @@
 #![tactic(auto)]
 
 mod directory;
+mod laws;
 mod noted;
 mod segment;
+mod segments;
 mod shard;
+mod slot;
 mod walked;
 
-pub use directory::{Directory, Level, LevelNotes, Segments, Single};
-pub use segment::Segment;
+pub use directory::Directory;
+pub use laws::segments_have_all_cells;
+pub use segments::{Segments, SegmentsNotes};
 pub use shard::{CellFault, CellPass, CellShard};
 
 #[cfg(test)]

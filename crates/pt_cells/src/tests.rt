@@ -212,7 +212,7 @@ fn race<R: Threads + Sync, D: Directory>(
 fn race_often<R: Threads + Sync>(rt: &R, alloc: Global, rounds: u32) -> Result<bool, Fail> {
     let codes = codes_below(alloc, 1_100)?;
     for _ in 0..rounds {
-        let shard: CellShard<Three> = CellShard::new(alloc, 1_100);
+        let shard: CellShard<Segments> = CellShard::new(alloc, 1_100);
         let Some(joined) = race(rt, alloc, &shard, &codes)? else {
             return Ok(false);
         };
@@ -223,19 +223,13 @@ fn race_often<R: Threads + Sync>(rt: &R, alloc: Global, rounds: u32) -> Result<b
     Ok(true)
 }
 
-// The first three segments of a shard.
-type Three = Level<1024, Level<2048, Single<4096>>>;
-
-// Three segments that few codes fill.
-type Small = Level<4, Level<8, Single<16>>>;
-
 #[test]
 fn answers_are_those_of_plain_lists(rt: HostRuntime) -> Result<(), Fail> {
     let alloc = rt.alloc();
     let codes = codes_below(alloc, 24)?;
     let mut random = 1u64;
     for limit in 1..26u32 {
-        let shard: CellShard<Small> = CellShard::new(alloc, limit);
+        let shard: CellShard<Segments> = CellShard::new(alloc, limit);
         assert!(rt;
             is_plain(alloc, &shard, &codes, &mut random)?,
             "at limit {limit}"
@@ -248,7 +242,7 @@ fn answers_are_those_of_plain_lists(rt: HostRuntime) -> Result<(), Fail> {
 fn walks_cross_the_ends_of_segments(rt: HostRuntime) -> Result<(), Fail> {
     let alloc = rt.alloc();
     let codes = codes_below(alloc, 3_080)?;
-    let shard: CellShard<Three> = CellShard::new(alloc, 3_079);
+    let shard: CellShard<Segments> = CellShard::new(alloc, 3_079);
     assert!(rt; walk(alloc, &shard, &codes, false).err() == Some(CellFault::Full));
     let all = walk(alloc, &shard, codes.get(..3_079).ok_or("codes")?, false)?;
     assert!(rt; all.len() == 3_079 && shard.limit() == 3_079);
