@@ -12,11 +12,11 @@ abbrev pub seen_of : NoteFields → List (ℕ × Option (List ℕ))
 seen_of d = d.s0 ∷ d.s1 ∷ d.s2 ∷ d.s3 ∷ d.s4 ∷ d.s5 ∷ d.s6 ∷ d.s7 ∷ d.s8 ∷ d.s9 ∷ d.s10 ∷ d.s11 ∷ d.s12 ∷ d.s13 ∷ d.s14 ∷ d.s15 ∷ d.s16 ∷ d.s17 ∷ []
 
 -- the notes are of the segments of these names
-abbrev pub Fits : List (ℕ × Option (List ℕ)) → List ℕ → Type 0
-Fits [] [] = Unit {0}
-Fits (s ∷ seen) (name ∷ names) = (s.0 ≡ name) × Fits seen names
-Fits [] (name ∷ names) = ⊥
-Fits (s ∷ seen) [] = ⊥
+abbrev pub AreNotesOf : List (ℕ × Option (List ℕ)) → List ℕ → Type 0
+AreNotesOf [] [] = Unit {0}
+AreNotesOf (s ∷ seen) (name ∷ names) = (s.0 ≡ name) × AreNotesOf seen names
+AreNotesOf [] (name ∷ names) = ⊥
+AreNotesOf (s ∷ seen) [] = ⊥
 
 -- what was seen stays
 abbrev pub Keeps : List (ℕ × Option (List ℕ)) → List (ℕ × Option (List ℕ)) → Type 0

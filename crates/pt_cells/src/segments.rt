@@ -1,9 +1,8 @@
 // The directory of a shard: 18 segments, each twice as long as the one before.
 ghost use Rattle.std.specs.Prelude.{◌≡◌, ◌+◌, ◌-◌, ◌*◌, ◌^◌, ◌<◌, ℕ, Some, IfOk};
 ghost use Rattle.once_cell.specs.Once.{cell_name};
-ghost use Rattle.pt_cells.specs.Places.{names_of, seen_of, Fits, Keeps, known_in, known_name, name_from};
+ghost use Rattle.pt_cells.specs.Places.{names_of, seen_of, AreNotesOf, Keeps, known_in, known_name, name_from};
 
-use crate::directory::Directory;
 use crate::slot::{Slot, SlotNote};
 use once_cell::race::OnceBox;
 use pt_store::{HashedCode, NoMemory};
@@ -103,7 +102,7 @@ impl SegmentFields {
 
     // Notes that nothing was seen.
     fn notes(&self) -> NoteFields
-        ensures { Fits (seen_of result) (names_of self.now) }
+        ensures { AreNotesOf (seen_of result) (names_of self.now) }
     {
         NoteFields {
             s0: self.s0.note(),
@@ -135,10 +134,10 @@ impl SegmentFields {
         level: u32,
         offset: usize,
     ) -> Result<&'a OnceBox<HashedCode>, NoMemory>
-        requires fits { Fits (seen_of notes.old) (names_of self.now) }
+        requires fits { AreNotesOf (seen_of notes.old) (names_of self.now) }
         requires level { level < 18 }
         requires offset { offset < 1024 * 2 ^ level }
-        ensures fits { Fits (seen_of notes.new) (names_of self.now) }
+        ensures fits { AreNotesOf (seen_of notes.new) (names_of self.now) }
         ensures kept { Keeps (seen_of notes.old) (seen_of notes.new) }
         ensures cell { IfOk result (λ c. known_name (known_in (seen_of notes.new) level) offset ≡ Some (cell_name c.now)) }
     {
@@ -171,9 +170,9 @@ impl SegmentFields {
         notes: &mut NoteFields,
         position: usize,
     ) -> Result<&'a OnceBox<HashedCode>, NoMemory>
-        requires fits { Fits (seen_of notes.old) (names_of self.now) }
+        requires fits { AreNotesOf (seen_of notes.old) (names_of self.now) }
         requires position { position < 268434432 }
-        ensures fits { Fits (seen_of notes.new) (names_of self.now) }
+        ensures fits { AreNotesOf (seen_of notes.new) (names_of self.now) }
         ensures kept { (p n : ℕ) → name_from 1024 (seen_of notes.old) p ≡ Some n → name_from 1024 (seen_of notes.new) p ≡ Some n }
         ensures cell { IfOk result (λ c. name_from 1024 (seen_of notes.new) position ≡ Some (cell_name c.now)) }
     {
@@ -183,8 +182,8 @@ impl SegmentFields {
 
     // Two notes of these segments name the same cell at a position.
     fn compare(&self, one: &mut NoteFields, other: &mut NoteFields)
-        requires one { Fits (seen_of one.old) (names_of self.now) }
-        requires other { Fits (seen_of other.old) (names_of self.now) }
+        requires one { AreNotesOf (seen_of one.old) (names_of self.now) }
+        requires other { AreNotesOf (seen_of other.old) (names_of self.now) }
         ensures same { (one.new ≡ one.old) × (other.new ≡ other.old) }
         ensures agree { (p m n : ℕ) → name_from 1024 (seen_of one.old) p ≡ Some m → name_from 1024 (seen_of other.old) p ≡ Some n → m ≡ n }
     {
@@ -269,43 +268,58 @@ impl Model for SegmentsNotes {
     ghost view = { λ n. seen_of n.fields };
 }
 
-impl Directory for Segments {
-    type Notes = SegmentsNotes;
-
-    ghost size = { 268434432 };
-
-    ghost fits = { λ directory notes. Fits notes directory };
-
-    ghost name_at = { λ notes p. name_from 1024 notes p };
-
-    fn new(alloc: Global) -> Segments {
+impl Segments {
+    /// Segments that are not made.
+    pub(crate) fn new(alloc: Global) -> Segments {
         Segments {
             fields: SegmentFields::new(alloc),
         }
     }
 
-    fn notes(&self) -> SegmentsNotes {
+    /// Notes that nothing was seen.
+    pub(crate) fn notes(&self) -> SegmentsNotes
+        ensures { AreNotesOf result self.now }
+    {
         SegmentsNotes {
             fields: self.fields.notes(),
         }
     }
 
-    fn cell<'a>(
+    /// The cell at a position, whose segment is made where there is none.
+    pub(crate) fn cell<'a>(
         &'a self,
         alloc: Global,
         notes: &mut SegmentsNotes,
         position: usize,
-    ) -> Result<&'a OnceBox<HashedCode>, NoMemory> {
+    ) -> Result<&'a OnceBox<HashedCode>, NoMemory>
+        requires fits { AreNotesOf notes.old self.now }
+        requires position { position < 268434432 }
+        ensures fits { AreNotesOf notes.new self.now }
+        ensures kept { (p n : ℕ) → name_from 1024 notes.old p ≡ Some n → name_from 1024 notes.new p ≡ Some n }
+        ensures cell { IfOk result (λ c. name_from 1024 notes.new position ≡ Some (cell_name c.now)) }
+    {
         self.fields.cell(alloc, &mut notes.fields, position)
     }
 
-    fn again(&self, notes: &mut SegmentsNotes) -> SegmentsNotes {
-        SegmentsNotes {
-            fields: notes.fields.again(),
-        }
-    }
-
-    fn compare(&self, one: &mut SegmentsNotes, other: &mut SegmentsNotes) {
+    /// Two notes of these segments name the same cell at a position.
+    pub(crate) fn compare(&self, one: &mut SegmentsNotes, other: &mut SegmentsNotes)
+        requires one { AreNotesOf one.old self.now }
+        requires other { AreNotesOf other.old self.now }
+        ensures same { (one.new ≡ one.old) × (other.new ≡ other.old) }
+        ensures agree { (p m n : ℕ) → name_from 1024 one.old p ≡ Some m → name_from 1024 other.old p ≡ Some n → m ≡ n }
+    {
         self.fields.compare(&mut one.fields, &mut other.fields);
+    }
+}
+
+impl SegmentsNotes {
+    /// Notes that the same was seen.
+    pub(crate) fn again(&mut self) -> SegmentsNotes
+        ensures same { self.new ≡ self.old }
+        ensures result { result ≡ self.old }
+    {
+        SegmentsNotes {
+            fields: self.fields.again(),
+        }
     }
 }

@@ -27,13 +27,13 @@ fn codes_below(alloc: Global, heights: u32) -> Result<Vec<HashedCode>, Fail> {
 }
 
 // A new pass that interned the codes, in order or in the opposite one.
-fn walk<D: Directory>(
+fn walk(
     alloc: Global,
-    shard: &CellShard<D>,
+    shard: &CellShard,
     codes: &[HashedCode],
     backward: bool,
-) -> Result<CellPass<D>, CellFault>
-    ensures { IfOk result (λ pass. IsOf D.fits D.name_at shard.now pass) }
+) -> Result<CellPass, CellFault>
+    ensures { IfOk result (λ pass. IsOf shard.now pass) }
 {
     let mut pass = shard.pass(alloc).map_err(|_| CellFault::NoMemory)?;
     for k in 0..codes.len() {
@@ -44,7 +44,7 @@ fn walk<D: Directory>(
 }
 
 // Whether a pass has just the codes of these heights, and finds each code where its height is first.
-fn has_heights<D: Directory>(pass: &CellPass<D>, heights: &[u32], codes: &[HashedCode]) -> bool {
+fn has_heights(pass: &CellPass, heights: &[u32], codes: &[HashedCode]) -> bool {
     for index in 0..pass.len() {
         let code = pass.code(index).map(|code| code.height());
         if code.as_ref() != heights.get(index as usize) {
@@ -93,18 +93,18 @@ impl Plain {
 }
 
 // Splits the second pass off anew, joins it, or exchanges both.
-fn move_passes<D: Directory>(
+fn move_passes(
     alloc: Global,
-    shard: &CellShard<D>,
-    one: &mut CellPass<D>,
-    other: &mut CellPass<D>,
+    shard: &CellShard,
+    one: &mut CellPass,
+    other: &mut CellPass,
     plain: &mut Plain,
     turn: u64,
 ) -> Result<(), Fail>
-    requires one { IsOf D.fits D.name_at shard.now one.old }
-    requires other { IsOf D.fits D.name_at shard.now other.old }
-    ensures one { IsOf D.fits D.name_at shard.now one.new }
-    ensures other { IsOf D.fits D.name_at shard.now other.new }
+    requires one { IsOf shard.now one.old }
+    requires other { IsOf shard.now other.old }
+    ensures one { IsOf shard.now one.new }
+    ensures other { IsOf shard.now other.new }
 {
     match turn {
         0 => {
@@ -127,16 +127,16 @@ fn move_passes<D: Directory>(
 }
 
 // Interns a code through the first pass, and says whether answers and lists are the plain ones.
-fn intern_one<D: Directory>(
+fn intern_one(
     alloc: Global,
-    shard: &CellShard<D>,
-    pass: &mut CellPass<D>,
+    shard: &CellShard,
+    pass: &mut CellPass,
     plain: &mut Plain,
     codes: &[HashedCode],
     code: &HashedCode,
 ) -> Result<bool, Fail>
-    requires { IsOf D.fits D.name_at shard.now pass.old }
-    ensures { IsOf D.fits D.name_at shard.now pass.new }
+    requires { IsOf shard.now pass.old }
+    ensures { IsOf shard.now pass.new }
 {
     let wanted = plain.intern(code.code().height())?;
     let same = match shard.intern(alloc, pass, code) {
@@ -149,9 +149,9 @@ fn intern_one<D: Directory>(
 }
 
 // Whether a random walk by two passes of a shard goes as by plain lists.
-fn is_plain<D: Directory>(
+fn is_plain(
     alloc: Global,
-    shard: &CellShard<D>,
+    shard: &CellShard,
     codes: &[HashedCode],
     random: &mut u64,
 ) -> Result<bool, Fail> {
@@ -183,19 +183,19 @@ fn is_plain<D: Directory>(
 }
 
 // Two threads intern the codes in opposite orders. Answers the joined pass, where both lists were the same.
-fn race<R: Threads + Sync, D: Directory>(
+fn race<R: Threads + Sync>(
     rt: &R,
     alloc: Global,
-    shard: &CellShard<D>,
+    shard: &CellShard,
     codes: &[HashedCode],
-) -> Result<Option<CellPass<D>>, CellFault> {
+) -> Result<Option<CellPass>, CellFault> {
     let (one, other) = thread::join(
         rt,
-        move || -> Result<CellPass<D>, CellFault>
-            ensures { IfOk result (λ pass. IsOf D.fits D.name_at shard.entry.now pass) }
+        move || -> Result<CellPass, CellFault>
+            ensures { IfOk result (λ pass. IsOf shard.entry.now pass) }
         { walk(alloc, shard, codes, false) },
-        move || -> Result<CellPass<D>, CellFault>
-            ensures { IfOk result (λ pass. IsOf D.fits D.name_at shard.entry.now pass) }
+        move || -> Result<CellPass, CellFault>
+            ensures { IfOk result (λ pass. IsOf shard.entry.now pass) }
         { walk(alloc, shard, codes, true) },
     );
     let (mut one, other) = (one?, other?);
@@ -212,7 +212,7 @@ fn race<R: Threads + Sync, D: Directory>(
 fn race_often<R: Threads + Sync>(rt: &R, alloc: Global, rounds: u32) -> Result<bool, Fail> {
     let codes = codes_below(alloc, 1_100)?;
     for _ in 0..rounds {
-        let shard: CellShard<Segments> = CellShard::new(alloc, 1_100);
+        let shard: CellShard = CellShard::new(alloc, 1_100);
         let Some(joined) = race(rt, alloc, &shard, &codes)? else {
             return Ok(false);
         };
@@ -229,7 +229,7 @@ fn answers_are_those_of_plain_lists(rt: HostRuntime) -> Result<(), Fail> {
     let codes = codes_below(alloc, 24)?;
     let mut random = 1u64;
     for limit in 1..26u32 {
-        let shard: CellShard<Segments> = CellShard::new(alloc, limit);
+        let shard: CellShard = CellShard::new(alloc, limit);
         assert!(rt;
             is_plain(alloc, &shard, &codes, &mut random)?,
             "at limit {limit}"
@@ -242,7 +242,7 @@ fn answers_are_those_of_plain_lists(rt: HostRuntime) -> Result<(), Fail> {
 fn walks_cross_the_ends_of_segments(rt: HostRuntime) -> Result<(), Fail> {
     let alloc = rt.alloc();
     let codes = codes_below(alloc, 3_080)?;
-    let shard: CellShard<Segments> = CellShard::new(alloc, 3_079);
+    let shard: CellShard = CellShard::new(alloc, 3_079);
     assert!(rt; walk(alloc, &shard, &codes, false).err() == Some(CellFault::Full));
     let all = walk(alloc, &shard, codes.get(..3_079).ok_or("codes")?, false)?;
     assert!(rt; all.len() == 3_079 && shard.limit() == 3_079);
@@ -259,5 +259,16 @@ fn walks_cross_the_ends_of_segments(rt: HostRuntime) -> Result<(), Fail> {
 #[test]
 fn threads_that_race_have_one_list(rt: HostRuntime) -> Result<(), Fail> {
     assert!(rt; race_often(&rt, rt.alloc(), 100)?);
+    Ok(())
+}
+
+#[test]
+fn tiny(rt: HostRuntime) -> Result<(), Fail> {
+    let alloc = rt.alloc();
+    let code = code_of_height(alloc, 8)?;
+    let shard = CellShard::new(alloc, 268_434_432);
+    let mut pass = shard.pass(alloc)?;
+    let index = shard.intern(alloc, &mut pass, &code)?;
+    assert!(rt; index == 0);
     Ok(())
 }

@@ -1,9 +1,0 @@
-use Rattle.std.proofs.Common.{◌∙◌, ap}
-use Rattle.pt_cells.specs.Places.{seen_of}
-use Rattle.pt_cells.proofs.segments.SegmentsDirectory.again.Goals as goal
-
-pub returns-clause-same : goal.returns-clause-same
-returns-clause-same c = ap seen_of c.again.ensures.same ∙ c.notes.view_is
-
-pub returns-clause-result : goal.returns-clause-result
-returns-clause-result c = ap seen_of c.again.ensures.result ∙ c.notes.view_is
