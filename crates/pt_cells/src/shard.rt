@@ -93,12 +93,7 @@ impl CellShard {
     }
 
     /// Offers a code to the first cell that the pass has not walked, and says whether the cell shows it.
-    fn step(
-        &self,
-        alloc: Global,
-        pass: &mut CellPass,
-        code: &HashedCode,
-    ) -> Result<bool, NoMemory>
+    fn step(&self, alloc: Global, pass: &mut CellPass, code: &HashedCode) -> Result<bool, NoMemory>
         requires of { IsOf self.now pass.old }
         requires room { length pass.old.codes < self.now.limit }
         ensures of { IsOf self.now pass.new }

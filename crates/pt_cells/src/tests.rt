@@ -4,7 +4,7 @@ ghost use Rattle.pt_cells.specs.Seeing.{IsOf};
 
 use crate::*;
 use pt_code::read_code;
-use pt_store::HashedCode;
+use pt_store::{HashedCode, MAX_CODES};
 use std::alloc::{AllocError, Global};
 use std::sync::Arc;
 use std::test::Fail;
@@ -212,7 +212,7 @@ fn race<R: Threads + Sync>(
 fn race_often<R: Threads + Sync>(rt: &R, alloc: Global, rounds: u32) -> Result<bool, Fail> {
     let codes = codes_below(alloc, 1_100)?;
     for _ in 0..rounds {
-        let shard: CellShard = CellShard::new(alloc, 1_100);
+        let shard = CellShard::new(alloc, MAX_CODES);
         let Some(joined) = race(rt, alloc, &shard, &codes)? else {
             return Ok(false);
         };
@@ -229,7 +229,7 @@ fn answers_are_those_of_plain_lists(rt: HostRuntime) -> Result<(), Fail> {
     let codes = codes_below(alloc, 24)?;
     let mut random = 1u64;
     for limit in 1..26u32 {
-        let shard: CellShard = CellShard::new(alloc, limit);
+        let shard = CellShard::new(alloc, limit);
         assert!(rt;
             is_plain(alloc, &shard, &codes, &mut random)?,
             "at limit {limit}"
@@ -242,10 +242,11 @@ fn answers_are_those_of_plain_lists(rt: HostRuntime) -> Result<(), Fail> {
 fn walks_cross_the_ends_of_segments(rt: HostRuntime) -> Result<(), Fail> {
     let alloc = rt.alloc();
     let codes = codes_below(alloc, 3_080)?;
-    let shard: CellShard = CellShard::new(alloc, 3_079);
-    assert!(rt; walk(alloc, &shard, &codes, false).err() == Some(CellFault::Full));
-    let all = walk(alloc, &shard, codes.get(..3_079).ok_or("codes")?, false)?;
-    assert!(rt; all.len() == 3_079 && shard.limit() == 3_079);
+    let small = CellShard::new(alloc, 3_079);
+    assert!(rt; walk(alloc, &small, &codes, false).err() == Some(CellFault::Full));
+    let shard = CellShard::new(alloc, MAX_CODES);
+    let all = walk(alloc, &shard, &codes, false)?;
+    assert!(rt; all.len() == 3_080 && shard.limit() == 268_434_432);
     for height in [1_022, 1_023, 1_024, 1_025, 3_070, 3_071, 3_072, 3_073] {
         let one = codes.get(height..).and_then(|rest| rest.get(..1));
         let late = walk(alloc, &shard, one.ok_or("codes")?, false)?;
@@ -259,16 +260,5 @@ fn walks_cross_the_ends_of_segments(rt: HostRuntime) -> Result<(), Fail> {
 #[test]
 fn threads_that_race_have_one_list(rt: HostRuntime) -> Result<(), Fail> {
     assert!(rt; race_often(&rt, rt.alloc(), 100)?);
-    Ok(())
-}
-
-#[test]
-fn tiny(rt: HostRuntime) -> Result<(), Fail> {
-    let alloc = rt.alloc();
-    let code = code_of_height(alloc, 8)?;
-    let shard = CellShard::new(alloc, 268_434_432);
-    let mut pass = shard.pass(alloc)?;
-    let index = shard.intern(alloc, &mut pass, &code)?;
-    assert!(rt; index == 0);
     Ok(())
 }
