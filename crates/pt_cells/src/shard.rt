@@ -20,10 +20,13 @@ use std::sync::Arc;
 pub enum CellFault {
     /// The shard holds as many codes as it may, and none of them is the code.
     Full,
+    /// Memory was lacking, for a segment, a cell or the pass.
     NoMemory,
 }
 
-/// A shard of set-once cells.
+/// A shard of 268,434,432 set-once cells, of which the first so many as its limit are used. They stand in 18 segments, each
+/// twice as long as the one before and made when a pass first reaches it, so that an empty shard has no cells in memory.
+/// Threads share it, each with a pass of its own.
 #[derive(Drop)]
 pub struct CellShard {
     segments: Segments,
@@ -41,7 +44,8 @@ impl Model for CellShard {
     ghost invariant = { λ s. s.limit ≤ 268434432 };
 }
 
-/// What was seen in a shard: the codes of its first cells, in order.
+/// What was seen in a shard: the codes of its first cells, in order, with the first position of each. It also keeps a note
+/// of each segment and of each of those cells, by which two passes are compared.
 #[derive(Drop)]
 pub struct CellPass {
     notes: SegmentsNotes,

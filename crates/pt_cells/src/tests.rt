@@ -148,14 +148,17 @@ fn intern_one(
     Ok(same && has_heights(pass, heights, codes))
 }
 
-// Whether a random walk by two passes of a shard goes as by plain lists.
-fn is_plain(
+// Whether a random walk by two passes of a shard, the first of which is new, goes as by plain lists.
+fn goes_plain(
     alloc: Global,
     shard: &CellShard,
+    one: &mut CellPass,
     codes: &[HashedCode],
     random: &mut u64,
-) -> Result<bool, Fail> {
-    let (mut one, mut other) = (shard.pass(alloc)?, shard.pass(alloc)?);
+) -> Result<bool, Fail>
+    requires { IsOf shard.now one.old }
+{
+    let mut other = shard.pass(alloc)?;
     let mut plain = Plain {
         cells: Vec::new(alloc),
         limit: shard.limit() as usize,
@@ -166,20 +169,24 @@ fn is_plain(
         *random = random
             .wrapping_mul(6_364_136_223_846_793_005)
             .wrapping_add(1_442_695_040_888_963_407);
-        move_passes(
-            alloc,
-            shard,
-            &mut one,
-            &mut other,
-            &mut plain,
-            *random >> 60,
-        )?;
+        move_passes(alloc, shard, one, &mut other, &mut plain, *random >> 60)?;
         let code = codes.get((*random >> 33) as usize % 24).ok_or("codes")?;
-        if !intern_one(alloc, shard, &mut one, &mut plain, codes, code)? {
+        if !intern_one(alloc, shard, one, &mut plain, codes, code)? {
             return Ok(false);
         }
     }
     Ok(true)
+}
+
+// Whether a random walk by two new passes of a shard goes as by plain lists.
+fn is_plain(
+    alloc: Global,
+    shard: &CellShard,
+    codes: &[HashedCode],
+    random: &mut u64,
+) -> Result<bool, Fail> {
+    let mut one = shard.pass(alloc)?;
+    goes_plain(alloc, shard, &mut one, codes, random)
 }
 
 // Two threads intern the codes in opposite orders. Answers the joined pass, where both lists were the same.

@@ -1,5 +1,5 @@
 use Rattle.pt_cells.specs.Seeing.{IsOf}
-use Rattle.pt_cells.proofs.tests.is_plain.Given as goal
+use Rattle.pt_cells.proofs.tests.goes_plain.Given as goal
 
 abbrev pub invariant-loop : goal.invariant-loop
 invariant-loop l = record {
