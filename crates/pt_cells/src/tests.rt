@@ -189,13 +189,13 @@ fn is_plain(
     goes_plain(alloc, shard, &mut one, codes, random)
 }
 
-// Two threads intern the codes in opposite orders. Answers the joined pass, where both lists were the same.
+// Two threads intern the codes in opposite orders. Says whether both lists are the same, with all the codes.
 fn race<R: Threads + Sync>(
     rt: &R,
     alloc: Global,
     shard: &CellShard,
     codes: &[HashedCode],
-) -> Result<Option<CellPass>, CellFault> {
+) -> Result<bool, CellFault> {
     let (one, other) = thread::join(
         rt,
         move || -> Result<CellPass, CellFault>
@@ -205,14 +205,25 @@ fn race<R: Threads + Sync>(
             ensures { IfOk result (λ pass. IsOf shard.entry.now pass) }
         { walk(alloc, shard, codes, true) },
     );
-    let (mut one, other) = (one?, other?);
-    for code in codes {
-        if one.find_hashed(code) != other.find_hashed(code) {
-            return Ok(None);
-        }
-    }
-    shard.join(&mut one, other);
-    Ok(Some(one))
+    let mut one = one?;
+    Ok(join_same(shard, &mut one, other?, codes) && has_all(&one, codes))
+}
+
+// Joins two passes, and says whether they had each code at one position.
+fn join_same(shard: &CellShard, one: &mut CellPass, other: CellPass, codes: &[HashedCode]) -> bool
+    requires one { IsOf shard.now one.old }
+    requires other { IsOf shard.now other }
+{
+    let same = codes
+        .iter()
+        .all(|code| one.find_hashed(code) == other.find_hashed(code));
+    shard.join(one, other);
+    same
+}
+
+// Whether a pass has just these codes, in any order.
+fn has_all(pass: &CellPass, codes: &[HashedCode]) -> bool {
+    pass.len() as usize == codes.len() && codes.iter().all(|code| pass.find_hashed(code).is_some())
 }
 
 // Whether two threads have one list in each of many rounds.
@@ -220,14 +231,33 @@ fn race_often<R: Threads + Sync>(rt: &R, alloc: Global, rounds: u32) -> Result<b
     let codes = codes_below(alloc, 1_100)?;
     for _ in 0..rounds {
         let shard = CellShard::new(alloc, MAX_CODES);
-        let Some(joined) = race(rt, alloc, &shard, &codes)? else {
-            return Ok(false);
-        };
-        if joined.len() != 1_100 || codes.iter().any(|code| joined.find_hashed(code).is_none()) {
+        if !race(rt, alloc, &shard, &codes)? {
             return Ok(false);
         }
     }
     Ok(true)
+}
+
+// Whether a shard of one cell less than there are codes refuses the last.
+fn refuses_last(alloc: Global, codes: &[HashedCode]) -> bool {
+    let small = CellShard::new(alloc, 3_079);
+    walk(alloc, &small, codes, false).err() == Some(CellFault::Full)
+}
+
+// Whether a new pass that interns the code of a height walks to its cell.
+fn walks_to(
+    alloc: Global,
+    shard: &CellShard,
+    codes: &[HashedCode],
+    height: u32,
+) -> Result<bool, Fail> {
+    let one = codes
+        .get(height as usize..)
+        .and_then(|rest| rest.get(..1))
+        .ok_or("codes")?;
+    let late = walk(alloc, shard, one, false)?;
+    let shown = late.code(height).map(|code| code.height());
+    Ok(late.len() == height.saturating_add(1) && shown == Some(height))
 }
 
 #[test]
@@ -249,17 +279,12 @@ fn answers_are_those_of_plain_lists(rt: HostRuntime) -> Result<(), Fail> {
 fn walks_cross_the_ends_of_segments(rt: HostRuntime) -> Result<(), Fail> {
     let alloc = rt.alloc();
     let codes = codes_below(alloc, 3_080)?;
-    let small = CellShard::new(alloc, 3_079);
-    assert!(rt; walk(alloc, &small, &codes, false).err() == Some(CellFault::Full));
+    assert!(rt; refuses_last(alloc, &codes));
     let shard = CellShard::new(alloc, MAX_CODES);
-    let all = walk(alloc, &shard, &codes, false)?;
-    assert!(rt; all.len() == 3_080 && shard.limit() == 268_434_432);
+    let all = walk(alloc, &shard, &codes, false)?.len();
+    assert!(rt; all == 3_080 && shard.limit() == 268_434_432);
     for height in [1_022, 1_023, 1_024, 1_025, 3_070, 3_071, 3_072, 3_073] {
-        let one = codes.get(height..).and_then(|rest| rest.get(..1));
-        let late = walk(alloc, &shard, one.ok_or("codes")?, false)?;
-        let shown = late.code(height as u32).map(|code| code.height());
-        assert!(rt; late.len() as usize == height + 1, "at {height}");
-        assert!(rt; shown == Some(height as u32), "at {height}");
+        assert!(rt; walks_to(alloc, &shard, &codes, height)?, "at {height}");
     }
     Ok(())
 }
