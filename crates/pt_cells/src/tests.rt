@@ -4,7 +4,7 @@ ghost use Rattle.pt_cells.specs.Seeing.{IsOf};
 
 use crate::*;
 use pt_code::read_code;
-use pt_store::{HashedCode, MAX_CODES, NoMemory};
+use pt_store::{HashedCode, MAX_CODES};
 use std::alloc::{AllocError, Global};
 use std::sync::Arc;
 use std::test::Fail;
@@ -24,68 +24,37 @@ fn codes_below(alloc: Global, heights: u32) -> Result<Vec<HashedCode>, Fail> {
     Ok(codes)
 }
 
-// A new pass that interned the codes, in order or in the opposite one.
-fn walk(
-    alloc: Global,
-    shard: &CellShard,
-    codes: &[HashedCode],
-    backward: bool,
-) -> Result<CellPass, CellFault>
+// A new pass that interned the codes, in order.
+fn walk(alloc: Global, shard: &CellShard, codes: &[HashedCode]) -> Result<CellPass, CellFault>
     ensures { IfOk result (λ pass. IsOf shard.now pass) }
 {
     let mut pass = shard.pass(alloc).map_err(|_| CellFault::NoMemory)?;
-    for k in 0..codes.len() {
-        let place = if backward { codes.len() - 1 - k } else { k };
-        shard.intern(alloc, &mut pass, &codes[place])?;
+    for code in codes {
+        shard.intern(alloc, &mut pass, code)?;
     }
     Ok(pass)
 }
 
-// Whether a shard of one cell less than there are codes refuses the last.
-fn refuses_last(alloc: Global, codes: &[HashedCode]) -> bool {
-    let small = CellShard::new(alloc, 3_079);
-    walk(alloc, &small, codes, false).err() == Some(CellFault::Full)
-}
-
-// Whether a new pass that interns the code of a height walks to its cell.
-fn walks_to(
+// The height of the code that a new pass that interned the codes has at a position, and how many it has.
+fn walked_height(
     alloc: Global,
     shard: &CellShard,
     codes: &[HashedCode],
-    height: u32,
-) -> Result<bool, Fail> {
-    let one = codes
-        .get(height as usize..)
-        .and_then(|rest| rest.get(..1))
-        .ok_or("codes")?;
-    let late = walk(alloc, shard, one, false)?;
-    let shown = late.code(height).map(|code| code.height());
-    Ok(late.len() == height.saturating_add(1) && shown == Some(height))
-}
-
-// Whether a second pass has what the first had, and joins it without a change.
-fn splits_and_joins(alloc: Global, shard: &CellShard, pass: &mut CellPass) -> Result<bool, NoMemory>
-    requires { IsOf shard.now pass.old }
-    ensures { IsOf shard.now pass.new }
-{
-    let before = pass.len();
-    let other = shard.split(alloc, pass)?;
-    let same = other.len() == before;
-    shard.join(pass, other);
-    Ok(same && pass.len() == before)
+    position: u32,
+) -> Result<(Option<u32>, u32), CellFault> {
+    let pass = walk(alloc, shard, codes)?;
+    Ok((pass.code(position).map(|code| code.height()), pass.len()))
 }
 
 #[test]
 fn walks_cross_the_ends_of_segments(rt: HostRuntime) -> Result<(), Fail> {
     let alloc = rt.alloc();
     let codes = codes_below(alloc, 3_080)?;
-    assert!(rt; refuses_last(alloc, &codes));
     let shard = CellShard::new(alloc, MAX_CODES);
-    let mut all = walk(alloc, &shard, &codes, false)?;
-    assert!(rt; all.len() == 3_080 && shard.limit() == 268_434_432);
-    assert!(rt; splits_and_joins(alloc, &shard, &mut all)?);
-    for height in [1_022, 1_023, 1_024, 1_025, 3_070, 3_071, 3_072, 3_073] {
-        assert!(rt; walks_to(alloc, &shard, &codes, height)?, "at {height}");
+    for position in [0, 1_022, 1_023, 1_024, 1_025, 3_070, 3_071, 3_072, 3_073] {
+        let (height, len) = walked_height(alloc, &shard, &codes, position)?;
+        assert!(rt; height == Some(position) && len == 3_080, "at {position}");
     }
+    assert!(rt; shard.limit() == 268_434_432);
     Ok(())
 }
