@@ -4,7 +4,7 @@ ghost use Rattle.std.specs.Prelude.{◌<◌};
 use crate::*;
 use pt_formula::{Formula, FormulaFault, Kind, Node, NodeId, Op, Position, Var};
 use pt_handles::expand;
-use pt_store::{LocalStore, OneShard};
+use pt_store::{OneShard, SharedStore};
 use pt_tables::Table;
 use std::alloc::Global;
 use std::test::Fail;
@@ -88,7 +88,7 @@ fn solve<R: Threads + Sync>(
     if limit == 0 || limit > 1_000_000 {
         return Err("limit")?;
     }
-    let (store, mut pass) = LocalStore::new(alloc, 1, limit, OneShard)?;
+    let (store, mut pass) = SharedStore::new(alloc, 1, limit, OneShard)?;
     match evaluate(
         rt,
         alloc,
