@@ -67,7 +67,9 @@ pub fn evaluate<I: Sharing, G: Gate, R: Threads + Sync>(
 {
     formula.is_formula();
     let rows = plan(alloc, formula, roots)?;
-    let outcomes = match evaluate_rows(rt, alloc, store, pass, formula, bound, workers, gate, &rows) {
+    let outcomes = match evaluate_rows(
+        rt, alloc, store, pass, formula, bound, workers, gate, &rows,
+    ) {
         Ok(outcomes) => outcomes,
         Err(fault) => return Err(EvalFault::from(fault)),
     };

@@ -31,11 +31,7 @@ pub(crate) fn split_all(
 }
 
 /// Makes one pass of two in each shard. Takes no memory.
-pub(crate) fn join_all(
-    shards: &[CellShard],
-    passes: &mut Vec<CellPass>,
-    others: &mut Vec<CellPass>,
-)
+pub(crate) fn join_all(shards: &[CellShard], passes: &mut Vec<CellPass>, others: &mut Vec<CellPass>)
     requires first { AtEach IsOf shards.now passes.old.items }
     requires second { AtEach IsOf shards.now others.old.items }
     ensures kept { AtEach IsOf shards.now passes.new.items }

@@ -5,9 +5,7 @@ ghost use Rattle.pt_sets.specs.Lists.{find};
 ghost use Rattle.pt_store.specs.Shared.{Owns, lists_of};
 ghost use Rattle.pt_store.specs.Showing.{lists-some, lists-within};
 
-use crate::cell_passes::{
-    code_in, count_in, find_in, intern_in, join_all, place_in, split_all,
-};
+use crate::cell_passes::{code_in, count_in, find_in, intern_in, join_all, place_in, split_all};
 use crate::fault::{JoinRefused, NoMemory, StoreFault};
 use crate::traits::{Codes, Interner, Sharing, Spread};
 use pt_cells::{CellFault, CellPass, CellShard};
@@ -154,7 +152,13 @@ impl<S: Spread + Send> Interner for SharedStore<S> {
             return Ok(Place { shard, index });
         }
         pass.offers = pass.offers.saturating_add(1);
-        match intern_in(self.shards.as_slice(), alloc, &mut pass.shards, shard, &code) {
+        match intern_in(
+            self.shards.as_slice(),
+            alloc,
+            &mut pass.shards,
+            shard,
+            &code,
+        ) {
             Ok(index) => Ok(Place { shard, index }),
             Err(CellFault::Full) => Err(StoreFault::Full {
                 shard,
