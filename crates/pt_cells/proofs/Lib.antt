@@ -1,3 +1,4 @@
 pub mod Agreeing
+pub mod Levels
 pub mod Pushes
 pub mod Walks

@@ -2,23 +2,24 @@
 use Rattle.std.proofs.Common.{◌≡◌, inl, inr, Bool, true, false, None, position, subst, ℕ, ◌<◌, List, [], ◌∷◌, ◌++◌, length, ap, refl, sym, ◌∙◌, arith, Some, Option, slice_get, length-append}
 use Rattle.std.specs.Cmp.Lexicographic.{bytes_decides, nat_list_eq_equiv}
 use Rattle.pt_sets.specs.Lists.{code_eq}
+use Rattle.pt_cells.specs.Places.{AreNotesOf, name_from}
 use Rattle.pt_cells.specs.Seeing.{Cells, Seen, IsOf, OneMore}
 use Rattle.pt_cells.proofs.Pushes.{slice_get-push, position-push, position-push_other}
 
-module _ {D N : Type 0} (fits : D → N → Type 0) (name_at : N → ℕ → Option ℕ) (shard : Cells D) (old : Seen N) (notes : N) where
+module _ (shard : Cells) (old : Seen) (notes : List (ℕ × Option (List ℕ))) where
   -- the names stay those of the cells
-  named-more : (name : ℕ) → IsOf fits name_at shard old → ((p n : ℕ) → name_at old.notes p ≡ Some n → name_at notes p ≡ Some n) →
-      name_at notes (length old.cells) ≡ Some name → (p n : ℕ) → slice_get (old.cells ++ name ∷ []) p ≡ Some n → name_at notes p ≡ Some n
+  named-more : (name : ℕ) → IsOf shard old → ((p n : ℕ) → name_from 1024 old.notes p ≡ Some n → name_from 1024 notes p ≡ Some n) →
+      name_from 1024 notes (length old.cells) ≡ Some name → (p n : ℕ) → slice_get (old.cells ++ name ∷ []) p ≡ Some n → name_from 1024 notes p ≡ Some n
   named-more name of kept at p n stands =
       elim (slice_get-push old.cells name p n stands) [
         | inl before ↦ kept p n (of.named p n before)
-        | inr last ↦ ap (name_at notes) last.0 ∙ at ∙ cc (last.1)
+        | inr last ↦ ap (name_from 1024 notes) last.0 ∙ at ∙ cc (last.1)
       ]
 
   -- the pass stays one of its shard
-  pub IsOf-more : (name : ℕ) (code : List ℕ) (cells : List ℕ) (codes : List (List ℕ)) → IsOf fits name_at shard old → fits shard.directory notes →
-      ((p n : ℕ) → name_at old.notes p ≡ Some n → name_at notes p ≡ Some n) → name_at notes (length old.cells) ≡ Some name → length old.codes < shard.limit →
-      cells ≡ old.cells ++ name ∷ [] → codes ≡ old.codes ++ code ∷ [] → IsOf fits name_at shard (record { notes = notes; cells = cells; codes = codes })
+  pub IsOf-more : (name : ℕ) (code : List ℕ) (cells : List ℕ) (codes : List (List ℕ)) → IsOf shard old → AreNotesOf notes shard.segments →
+      ((p n : ℕ) → name_from 1024 old.notes p ≡ Some n → name_from 1024 notes p ≡ Some n) → name_from 1024 notes (length old.cells) ≡ Some name → length old.codes < shard.limit →
+      cells ≡ old.cells ++ name ∷ [] → codes ≡ old.codes ++ code ∷ [] → IsOf shard (record { notes = notes; cells = cells; codes = codes })
   IsOf-more name code cells codes of segments kept at room names shown =
       let more = length-append old.cells (name ∷ []) in
       let longer = length-append old.codes (code ∷ []) in

@@ -1,24 +1,25 @@
 -- A shard of set-once cells, and what a pass has seen in it.
 use Rattle.std.specs.Prelude.{◌≡◌, ◌↔◌, ℕ, ◌≤◌, ◌++◌, [], ◌∷◌, List, length, Bool, IsTrue, Option, Some, None, position, slice_get}
 use Rattle.pt_sets.specs.Lists.{code_eq}
+use Rattle.pt_cells.specs.Places.{AreNotesOf, name_from}
 use Rattle.pt_cells.specs.declared.shard.CellFault.{CellFault}
 use Rattle.pt_cells.specs.declared.shard.CellFault.TheVariants.{Full, NoMemory}
 
--- a shard: its directory, and how many codes it may hold
-pub record Cells (D : Type 0) : Type 0 where
-  pub directory : D
+-- a shard: the names of its segments, and how many codes it may hold
+pub record Cells : Type 0 where
+  pub segments : List ℕ
   pub limit : ℕ
 
--- what a pass has seen of a shard: notes of its segments, the names of the cells that it walked, and their codes
-pub record Seen (N : Type 0) : Type 0 where
-  pub notes : N
+-- what a pass has seen of a shard: for each segment its name and, where it was seen, the names of its cells; the names of the cells that it walked, and their codes
+pub record Seen : Type 0 where
+  pub notes : List (ℕ × Option (List ℕ))
   pub cells : List ℕ
   pub codes : List (List ℕ)
 
 -- The pass came from this shard: its notes are of the shard's segments, and it walked the cells from the first one on.
-pub record IsOf {D N : Type 0} (fits : D → N → Type 0) (name_at : N → ℕ → Option ℕ) (shard : Cells D) (seen : Seen N) : Type 0 where
-  pub segments : fits shard.directory seen.notes
-  pub named : (p n : ℕ) → slice_get seen.cells p ≡ Some n → name_at seen.notes p ≡ Some n
+pub record IsOf (shard : Cells) (seen : Seen) : Type 0 where
+  pub segments : AreNotesOf seen.notes shard.segments
+  pub named : (p n : ℕ) → slice_get seen.cells p ≡ Some n → name_from 1024 seen.notes p ≡ Some n
   pub walked : length seen.cells ≡ length seen.codes
   pub within : length seen.codes ≤ shard.limit
 

@@ -2,14 +2,14 @@
 ghost use Rattle.std.specs.Prelude.{◌≡◌, ◌+◌, ◌<◌, ◌≤◌, [], length, option_map, position, slice_get, IfOk, IfErr, IfSome, IfNone, OnErr, Ok, Some};
 ghost use Rattle.std.specs.Arc.{arc_value};
 ghost use Rattle.pt_sets.specs.Lists.{code_eq};
-ghost use Rattle.pt_store.specs.Shards.{Begins, JoinsLists};
+ghost use Rattle.pt_shards.specs.Shards.{Begins, JoinsLists};
 ghost use Rattle.pt_cells.specs.Seeing.{IsOf, OneMore, RefusesFull};
 
-use crate::directory::Directory;
 use crate::noted::{compare_all, notes_again};
+use crate::segments::{Segments, SegmentsNotes};
 use crate::walked::Walked;
-use pt_code::Code;
-use pt_store::{HashedCode, MAX_CODES, NoMemory, Shard};
+use pt_code::{Code, NoMemory};
+use pt_shards::{HashedCode, MAX_CODES, Shard};
 use std::alloc::Global;
 use std::marker::Model;
 use std::mem;
@@ -20,55 +20,58 @@ use std::sync::Arc;
 pub enum CellFault {
     /// The shard holds as many codes as it may, and none of them is the code.
     Full,
+    /// Memory was lacking, for a segment, a cell or the pass.
     NoMemory,
 }
 
-/// A shard of set-once cells.
+/// A shard of 268,434,432 set-once cells, of which the first so many as its limit are used. They stand in 18 segments, each
+/// twice as long as the one before and made when a pass first reaches it, so that an empty shard has no cells in memory.
+/// Threads share it, each with a pass of its own.
 #[derive(Drop)]
-pub struct CellShard<D: Directory> {
-    directory: D,
+pub struct CellShard {
+    segments: Segments,
     limit: u32,
 }
 
-impl<D: Directory> Model for CellShard<D> {
+impl Model for CellShard {
     ghost use Rattle.std.specs.Prelude.{◌≤◌};
     ghost use Rattle.pt_cells.specs.Seeing.{Cells};
 
-    ghost Value = { Cells D };
+    ghost Value = { Cells };
 
-    ghost view = { λ s. record { directory = s.directory; limit = s.limit } };
+    ghost view = { λ s. record { segments = s.segments; limit = s.limit } };
 
-    ghost invariant = { λ s. (s.limit ≤ D.size) × (s.limit ≤ 268434432) };
+    ghost invariant = { λ s. s.limit ≤ 268434432 };
 }
 
-/// What was seen in a shard: the codes of its first cells, in order.
+/// What was seen in a shard: the codes of its first cells, in order, with the first position of each. It also keeps a note
+/// of each segment and of each of those cells, by which two passes are compared.
 #[derive(Drop)]
-pub struct CellPass<D: Directory> {
-    notes: D::Notes,
+pub struct CellPass {
+    notes: SegmentsNotes,
     walked: Vec<Walked>,
     codes: Shard,
 }
 
-impl<D: Directory> Model for CellPass<D> {
+impl Model for CellPass {
     ghost use Rattle.std.specs.Prelude.{◌≡◌, map};
     ghost use Rattle.pt_cells.specs.Seeing.{Seen};
 
-    ghost Value = { Seen D.Notes };
+    ghost Value = { Seen };
 
     ghost view = { λ p. record { notes = p.notes; cells = map (λ w. w.0) p.walked.items; codes = p.codes } };
 
     ghost invariant = { λ p. map (λ w. w.1) p.walked.items ≡ p.codes };
 }
 
-impl<D: Directory> CellShard<D> {
+impl CellShard {
     /// A shard whose cells are empty.
-    pub fn new(alloc: Global, limit: u32) -> CellShard<D>
-        requires cells { limit ≤ D.size }
-        requires limit { limit ≤ MAX_CODES }
+    pub fn new(alloc: Global, limit: u32) -> CellShard
+        requires { limit ≤ MAX_CODES }
         ensures { result.limit ≡ limit }
     {
         CellShard {
-            directory: D::new(alloc),
+            segments: Segments::new(alloc),
             limit,
         }
     }
@@ -81,34 +84,29 @@ impl<D: Directory> CellShard<D> {
     }
 
     /// A pass that has seen nothing.
-    pub fn pass(&self, alloc: Global) -> Result<CellPass<D>, NoMemory>
-        ensures of { IfOk result (λ pass. IsOf D.fits D.name_at self.now pass) }
+    pub fn pass(&self, alloc: Global) -> Result<CellPass, NoMemory>
+        ensures of { IfOk result (λ pass. IsOf self.now pass) }
         ensures empty { IfOk result (λ pass. pass.codes ≡ []) }
     {
         let codes = Shard::new(alloc)?;
         Ok(CellPass {
-            notes: self.directory.notes(),
+            notes: self.segments.notes(),
             walked: Vec::new(alloc),
             codes,
         })
     }
 
     /// Offers a code to the first cell that the pass has not walked, and says whether the cell shows it.
-    fn step(
-        &self,
-        alloc: Global,
-        pass: &mut CellPass<D>,
-        code: &HashedCode,
-    ) -> Result<bool, NoMemory>
-        requires of { IsOf D.fits D.name_at self.now pass.old }
+    fn step(&self, alloc: Global, pass: &mut CellPass, code: &HashedCode) -> Result<bool, NoMemory>
+        requires of { IsOf self.now pass.old }
         requires room { length pass.old.codes < self.now.limit }
-        ensures of { IsOf D.fits D.name_at self.now pass.new }
+        ensures of { IsOf self.now pass.new }
         ensures ok { IfOk result (OneMore code.now pass.old.codes pass.new.codes) }
         ensures err { OnErr result (pass.new.codes ≡ pass.old.codes) }
     {
         pass.walked.reserve(1)?;
         let position = pass.walked.len();
-        let cell = self.directory.cell(alloc, &mut pass.notes, position)?;
+        let cell = self.segments.cell(alloc, &mut pass.notes, position)?;
         let (walked, shown) = Walked::offer(alloc, cell, code)?;
         let same = shown == *code;
         pass.codes.push(shown)?;
@@ -124,11 +122,11 @@ impl<D: Directory> CellShard<D> {
     pub fn intern(
         &self,
         alloc: Global,
-        pass: &mut CellPass<D>,
+        pass: &mut CellPass,
         code: &HashedCode,
     ) -> Result<u32, CellFault>
-        requires { IsOf D.fits D.name_at self.now pass.old }
-        ensures kept { IsOf D.fits D.name_at self.now pass.new }
+        requires { IsOf self.now pass.old }
+        ensures kept { IsOf self.now pass.new }
 
         // The list grows.
         ensures extends { Begins pass.old.codes pass.new.codes }
@@ -157,14 +155,14 @@ impl<D: Directory> CellShard<D> {
     }
 
     /// A second pass that has seen the same. Linear in the cells that the pass walked, for each of which it takes a byte.
-    pub fn split(&self, alloc: Global, pass: &mut CellPass<D>) -> Result<CellPass<D>, NoMemory>
-        requires { IsOf D.fits D.name_at self.now pass.old }
+    pub fn split(&self, alloc: Global, pass: &mut CellPass) -> Result<CellPass, NoMemory>
+        requires { IsOf self.now pass.old }
         ensures kept { pass.new ≡ pass.old }
         ensures same { IfOk result (λ other. other ≡ pass.old) }
     {
         let codes = pass.codes.split(alloc)?;
         let walked = notes_again(alloc, &mut pass.walked)?;
-        let notes = self.directory.again(&mut pass.notes);
+        let notes = pass.notes.again();
         Ok(CellPass {
             notes,
             walked,
@@ -173,14 +171,14 @@ impl<D: Directory> CellShard<D> {
     }
 
     /// Makes one pass of two, which is the longer. Takes no memory. Linear in the cells that both walked.
-    pub fn join(&self, pass: &mut CellPass<D>, other: CellPass<D>)
-        requires first { IsOf D.fits D.name_at self.now pass.old }
-        requires second { IsOf D.fits D.name_at self.now other }
-        ensures kept { IsOf D.fits D.name_at self.now pass.new }
+    pub fn join(&self, pass: &mut CellPass, other: CellPass)
+        requires first { IsOf self.now pass.old }
+        requires second { IsOf self.now other }
+        ensures kept { IsOf self.now pass.new }
         ensures joins { JoinsLists pass.old.codes other.codes pass.new.codes }
     {
         let mut other = other;
-        self.directory.compare(&mut pass.notes, &mut other.notes);
+        self.segments.compare(&mut pass.notes, &mut other.notes);
         compare_all(&mut pass.walked, &mut other.walked);
         if pass.len() < other.len() {
             mem::swap(pass, &mut other);
@@ -188,7 +186,7 @@ impl<D: Directory> CellShard<D> {
     }
 }
 
-impl<D: Directory> CellPass<D> {
+impl CellPass {
     /// How many codes the pass has.
     pub fn len(&self) -> u32
         ensures { result ≡ length self.now.codes }

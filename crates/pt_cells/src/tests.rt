@@ -4,7 +4,7 @@ ghost use Rattle.pt_cells.specs.Seeing.{IsOf};
 
 use crate::*;
 use pt_code::read_code;
-use pt_store::HashedCode;
+use pt_shards::{HashedCode, MAX_CODES};
 use std::alloc::{AllocError, Global};
 use std::sync::Arc;
 use std::test::Fail;
@@ -27,13 +27,13 @@ fn codes_below(alloc: Global, heights: u32) -> Result<Vec<HashedCode>, Fail> {
 }
 
 // A new pass that interned the codes, in order or in the opposite one.
-fn walk<D: Directory>(
+fn walk(
     alloc: Global,
-    shard: &CellShard<D>,
+    shard: &CellShard,
     codes: &[HashedCode],
     backward: bool,
-) -> Result<CellPass<D>, CellFault>
-    ensures { IfOk result (λ pass. IsOf D.fits D.name_at shard.now pass) }
+) -> Result<CellPass, CellFault>
+    ensures { IfOk result (λ pass. IsOf shard.now pass) }
 {
     let mut pass = shard.pass(alloc).map_err(|_| CellFault::NoMemory)?;
     for k in 0..codes.len() {
@@ -44,7 +44,7 @@ fn walk<D: Directory>(
 }
 
 // Whether a pass has just the codes of these heights, and finds each code where its height is first.
-fn has_heights<D: Directory>(pass: &CellPass<D>, heights: &[u32], codes: &[HashedCode]) -> bool {
+fn has_heights(pass: &CellPass, heights: &[u32], codes: &[HashedCode]) -> bool {
     for index in 0..pass.len() {
         let code = pass.code(index).map(|code| code.height());
         if code.as_ref() != heights.get(index as usize) {
@@ -93,18 +93,18 @@ impl Plain {
 }
 
 // Splits the second pass off anew, joins it, or exchanges both.
-fn move_passes<D: Directory>(
+fn move_passes(
     alloc: Global,
-    shard: &CellShard<D>,
-    one: &mut CellPass<D>,
-    other: &mut CellPass<D>,
+    shard: &CellShard,
+    one: &mut CellPass,
+    other: &mut CellPass,
     plain: &mut Plain,
     turn: u64,
 ) -> Result<(), Fail>
-    requires one { IsOf D.fits D.name_at shard.now one.old }
-    requires other { IsOf D.fits D.name_at shard.now other.old }
-    ensures one { IsOf D.fits D.name_at shard.now one.new }
-    ensures other { IsOf D.fits D.name_at shard.now other.new }
+    requires one { IsOf shard.now one.old }
+    requires other { IsOf shard.now other.old }
+    ensures one { IsOf shard.now one.new }
+    ensures other { IsOf shard.now other.new }
 {
     match turn {
         0 => {
@@ -127,16 +127,16 @@ fn move_passes<D: Directory>(
 }
 
 // Interns a code through the first pass, and says whether answers and lists are the plain ones.
-fn intern_one<D: Directory>(
+fn intern_one(
     alloc: Global,
-    shard: &CellShard<D>,
-    pass: &mut CellPass<D>,
+    shard: &CellShard,
+    pass: &mut CellPass,
     plain: &mut Plain,
     codes: &[HashedCode],
     code: &HashedCode,
 ) -> Result<bool, Fail>
-    requires { IsOf D.fits D.name_at shard.now pass.old }
-    ensures { IsOf D.fits D.name_at shard.now pass.new }
+    requires { IsOf shard.now pass.old }
+    ensures { IsOf shard.now pass.new }
 {
     let wanted = plain.intern(code.code().height())?;
     let same = match shard.intern(alloc, pass, code) {
@@ -148,14 +148,17 @@ fn intern_one<D: Directory>(
     Ok(same && has_heights(pass, heights, codes))
 }
 
-// Whether a random walk by two passes of a shard goes as by plain lists.
-fn is_plain<D: Directory>(
+// Whether a random walk by two passes of a shard, the first of which is new, goes as by plain lists.
+fn goes_plain(
     alloc: Global,
-    shard: &CellShard<D>,
+    shard: &CellShard,
+    one: &mut CellPass,
     codes: &[HashedCode],
     random: &mut u64,
-) -> Result<bool, Fail> {
-    let (mut one, mut other) = (shard.pass(alloc)?, shard.pass(alloc)?);
+) -> Result<bool, Fail>
+    requires { IsOf shard.now one.old }
+{
+    let mut other = shard.pass(alloc)?;
     let mut plain = Plain {
         cells: Vec::new(alloc),
         limit: shard.limit() as usize,
@@ -166,36 +169,40 @@ fn is_plain<D: Directory>(
         *random = random
             .wrapping_mul(6_364_136_223_846_793_005)
             .wrapping_add(1_442_695_040_888_963_407);
-        move_passes(
-            alloc,
-            shard,
-            &mut one,
-            &mut other,
-            &mut plain,
-            *random >> 60,
-        )?;
+        move_passes(alloc, shard, one, &mut other, &mut plain, *random >> 60)?;
         let code = codes.get((*random >> 33) as usize % 24).ok_or("codes")?;
-        if !intern_one(alloc, shard, &mut one, &mut plain, codes, code)? {
+        if !intern_one(alloc, shard, one, &mut plain, codes, code)? {
             return Ok(false);
         }
     }
     Ok(true)
 }
 
+// Whether a random walk by two new passes of a shard goes as by plain lists.
+fn is_plain(
+    alloc: Global,
+    shard: &CellShard,
+    codes: &[HashedCode],
+    random: &mut u64,
+) -> Result<bool, Fail> {
+    let mut one = shard.pass(alloc)?;
+    goes_plain(alloc, shard, &mut one, codes, random)
+}
+
 // Two threads intern the codes in opposite orders. Answers the joined pass, where both lists were the same.
-fn race<R: Threads + Sync, D: Directory>(
+fn race<R: Threads + Sync>(
     rt: &R,
     alloc: Global,
-    shard: &CellShard<D>,
+    shard: &CellShard,
     codes: &[HashedCode],
-) -> Result<Option<CellPass<D>>, CellFault> {
+) -> Result<Option<CellPass>, CellFault> {
     let (one, other) = thread::join(
         rt,
-        move || -> Result<CellPass<D>, CellFault>
-            ensures { IfOk result (λ pass. IsOf D.fits D.name_at shard.entry.now pass) }
+        move || -> Result<CellPass, CellFault>
+            ensures { IfOk result (λ pass. IsOf shard.entry.now pass) }
         { walk(alloc, shard, codes, false) },
-        move || -> Result<CellPass<D>, CellFault>
-            ensures { IfOk result (λ pass. IsOf D.fits D.name_at shard.entry.now pass) }
+        move || -> Result<CellPass, CellFault>
+            ensures { IfOk result (λ pass. IsOf shard.entry.now pass) }
         { walk(alloc, shard, codes, true) },
     );
     let (mut one, other) = (one?, other?);
@@ -212,7 +219,7 @@ fn race<R: Threads + Sync, D: Directory>(
 fn race_often<R: Threads + Sync>(rt: &R, alloc: Global, rounds: u32) -> Result<bool, Fail> {
     let codes = codes_below(alloc, 1_100)?;
     for _ in 0..rounds {
-        let shard: CellShard<Three> = CellShard::new(alloc, 1_100);
+        let shard = CellShard::new(alloc, MAX_CODES);
         let Some(joined) = race(rt, alloc, &shard, &codes)? else {
             return Ok(false);
         };
@@ -223,19 +230,13 @@ fn race_often<R: Threads + Sync>(rt: &R, alloc: Global, rounds: u32) -> Result<b
     Ok(true)
 }
 
-// The first three segments of a shard.
-type Three = Level<1024, Level<2048, Single<4096>>>;
-
-// Three segments that few codes fill.
-type Small = Level<4, Level<8, Single<16>>>;
-
 #[test]
 fn answers_are_those_of_plain_lists(rt: HostRuntime) -> Result<(), Fail> {
     let alloc = rt.alloc();
     let codes = codes_below(alloc, 24)?;
     let mut random = 1u64;
     for limit in 1..26u32 {
-        let shard: CellShard<Small> = CellShard::new(alloc, limit);
+        let shard = CellShard::new(alloc, limit);
         assert!(rt;
             is_plain(alloc, &shard, &codes, &mut random)?,
             "at limit {limit}"
@@ -248,10 +249,11 @@ fn answers_are_those_of_plain_lists(rt: HostRuntime) -> Result<(), Fail> {
 fn walks_cross_the_ends_of_segments(rt: HostRuntime) -> Result<(), Fail> {
     let alloc = rt.alloc();
     let codes = codes_below(alloc, 3_080)?;
-    let shard: CellShard<Three> = CellShard::new(alloc, 3_079);
-    assert!(rt; walk(alloc, &shard, &codes, false).err() == Some(CellFault::Full));
-    let all = walk(alloc, &shard, codes.get(..3_079).ok_or("codes")?, false)?;
-    assert!(rt; all.len() == 3_079 && shard.limit() == 3_079);
+    let small = CellShard::new(alloc, 3_079);
+    assert!(rt; walk(alloc, &small, &codes, false).err() == Some(CellFault::Full));
+    let shard = CellShard::new(alloc, MAX_CODES);
+    let all = walk(alloc, &shard, &codes, false)?;
+    assert!(rt; all.len() == 3_080 && shard.limit() == 268_434_432);
     for height in [1_022, 1_023, 1_024, 1_025, 3_070, 3_071, 3_072, 3_073] {
         let one = codes.get(height..).and_then(|rest| rest.get(..1));
         let late = walk(alloc, &shard, one.ok_or("codes")?, false)?;

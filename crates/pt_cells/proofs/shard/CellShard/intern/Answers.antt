@@ -4,12 +4,12 @@ use Rattle.pt_cells.proofs.Walks.{walk-found, walk-missed}
 use Rattle.pt_cells.proofs.shard.CellShard.intern.Goals as goal
 
 pub returns-in-Ok-true-clause-ok : goal.returns-in-Ok-true-clause-ok
-returns-in-Ok-true-clause-ok g c =
+returns-in-Ok-true-clause-ok c =
     let walked = c.loop-position.invariant in
     walk-found c.args.code.now c.loop-position.pass.codes c.step.new.pass.codes c.loop-position.position c.in-Ok-true.field-0 walked.lacks walked.len c.in-Ok-true.ensures.ok c.in-Ok-true.field-0-test
 
 pub loop-position-preserved : goal.loop-position-preserved
-loop-position-preserved g c =
+loop-position-preserved c =
     let walked = c.loop-position.invariant in
     let more = c.in-Ok-false.ensures.ok in
     let longer = length-append c.loop-position.pass.codes (more.0 ∷ []) in

@@ -1,12 +1,12 @@
 use Rattle.std.proofs.Common.{◌≡◌, length, position, None}
 use Rattle.pt_sets.specs.Lists.{code_eq}
-use Rattle.pt_store.specs.Shards.{Begins}
+use Rattle.pt_shards.specs.Shards.{Begins}
 use Rattle.pt_cells.specs.Seeing.{IsOf}
 use Rattle.pt_cells.proofs.shard.CellShard.intern.Given as goal
 
 abbrev pub invariant-loop-position : goal.invariant-loop-position
-invariant-loop-position g l = record {
-  of : IsOf g.D.Directory.fits g.D.Directory.name_at l.self l.pass;
+invariant-loop-position l = record {
+  of : IsOf l.self l.pass;
   extends : Begins l.fn.pass.codes l.pass.codes;
   len : length l.pass.codes ≡ l.position;
   lacks : position (code_eq l.code) l.pass.codes ≡ None;

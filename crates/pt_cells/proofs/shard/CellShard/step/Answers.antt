@@ -5,7 +5,7 @@ use Rattle.pt_cells.proofs.Walks.{IsOf-more}
 use Rattle.pt_cells.proofs.shard.CellShard.step.Goals as goal
 
 pub returns-clause-of : goal.returns-clause-of
-returns-clause-of g c =
+returns-clause-of c =
     let seen = c.args.pass.now in
     let name : ℕ × List ℕ → ℕ = λ w. w.0 in
     let walked = c.in_ok-walked.walked in
@@ -19,10 +19,10 @@ returns-clause-of g c =
     let position : c.len-position.result ≡ length seen.cells =
     omega (arith, c.len-position.ensures, c.in_ok-reserve.ensures.len, length-map c.pass.inside.walked.items name, ap (λ s. length s.cells) c.pass.view_is) in
     let notes : c.pass.inside.notes ≡ seen.notes = ap (λ s. s.notes) c.pass.view_is in
-    let directory : c.self.inside.directory ≡ c.args.self.now.directory = ap (λ s. s.directory) c.self.view_is in
-    IsOf-more g.D.Directory.fits g.D.Directory.name_at c.args.self.now seen c.cell.new.notes found c.in_ok-walked.shown _ _
+    let segments : c.self.inside.segments ≡ c.args.self.now.segments = ap (λ s. s.segments) c.self.view_is in
+    IsOf-more c.args.self.now seen c.cell.new.notes found c.in_ok-walked.shown _ _
     c.requires.of
-    (rw directory at c.cell.ensures.fits)
+    (rw segments at c.cell.ensures.fits)
     (rw notes at c.cell.ensures.kept)
     (rw position at c.in_ok-cell.ensures.cell)
     c.requires.room cells codes

@@ -1,0 +1,4 @@
+pub mod Dealing
+pub mod Refusing
+pub mod Handing
+pub mod Joining
