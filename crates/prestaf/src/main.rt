@@ -4,7 +4,7 @@
 use pt_eval::Open;
 use pt_io::{RealSink, RealSource, Sink, Source};
 use pt_main::{Status, run};
-use pt_store::{LocalStore, Mixed};
+use pt_store::{Mixed, SharedStore};
 use std::alloc::Global;
 use std::env;
 use std::io::ErrorKind;
@@ -52,7 +52,7 @@ fn answer<S: Source, K: Sink, R: Threads + Sync>(
     source: &mut S,
     sink: &mut K,
 ) -> Status {
-    match LocalStore::new(alloc, SHARDS, MAX_CODES, Mixed) {
+    match SharedStore::new(alloc, SHARDS, MAX_CODES, Mixed) {
         Ok((store, mut pass)) => run(rt, alloc, words, source, sink, &Open, &store, &mut pass),
         Err(_) => Status::NoMemory,
     }

@@ -6,7 +6,7 @@ use Rattle.std.proofs.lemmas.List.{take-append-le}
 use Rattle.std.proofs.lemmas.List.Sums.{prefix_len-le-length}
 use Rattle.std.proofs.lemmas.List.Folds.{position_or_len_push}
 use Rattle.pt_sets.proofs.ListLaws.{prefix-length}
-use Rattle.pt_store.specs.Shards.{Begins}
+use Rattle.pt_shards.specs.Shards.{Begins}
 
 -- an item of the longer list stands in the old one, or is the new one
 pub slice_get-push : {X : Type 0} (xs : List X) (x : X) (p : ℕ) (y : X) → slice_get (xs ++ x ∷ []) p ≡ Some y → (slice_get xs p ≡ Some y) ⊎ ((p ≡ length xs) × (y ≡ x))

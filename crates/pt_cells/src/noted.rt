@@ -1,10 +1,10 @@
 // The notes of the cells that a pass walked.
 ghost use Rattle.std.specs.Prelude.{◌≡◌, map, IfOk};
-ghost use Rattle.pt_store.specs.Shards.{Agree};
+ghost use Rattle.pt_shards.specs.Shards.{Agree};
 ghost use Rattle.pt_cells.specs.Seeing.{NamesAgree};
 
 use crate::walked::Walked;
-use pt_store::NoMemory;
+use pt_code::NoMemory;
 use std::alloc::Global;
 
 /// Compares the notes of two passes cell by cell: one cell shows one code. Takes no memory.

@@ -5,7 +5,8 @@ ghost use Rattle.pt_cells.specs.Places.{names_of, seen_of, AreNotesOf, Keeps, kn
 
 use crate::slot::{Slot, SlotNote};
 use once_cell::race::OnceBox;
-use pt_store::{HashedCode, NoMemory};
+use pt_code::NoMemory;
+use pt_shards::HashedCode;
 use std::alloc::Global;
 use std::marker::Model;
 

@@ -2,14 +2,14 @@
 ghost use Rattle.std.specs.Prelude.{◌≡◌, ◌+◌, ◌<◌, ◌≤◌, [], length, option_map, position, slice_get, IfOk, IfErr, IfSome, IfNone, OnErr, Ok, Some};
 ghost use Rattle.std.specs.Arc.{arc_value};
 ghost use Rattle.pt_sets.specs.Lists.{code_eq};
-ghost use Rattle.pt_store.specs.Shards.{Begins, JoinsLists};
+ghost use Rattle.pt_shards.specs.Shards.{Begins, JoinsLists};
 ghost use Rattle.pt_cells.specs.Seeing.{IsOf, OneMore, RefusesFull};
 
 use crate::noted::{compare_all, notes_again};
 use crate::segments::{Segments, SegmentsNotes};
 use crate::walked::Walked;
-use pt_code::Code;
-use pt_store::{HashedCode, MAX_CODES, NoMemory, Shard};
+use pt_code::{Code, NoMemory};
+use pt_shards::{HashedCode, MAX_CODES, Shard};
 use std::alloc::Global;
 use std::marker::Model;
 use std::mem;

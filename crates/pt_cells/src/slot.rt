@@ -5,7 +5,8 @@ ghost use Rattle.pt_cells.specs.Places.{known_name};
 
 use crate::segment::{Segment, reach};
 use once_cell::race::{Note, OnceBox};
-use pt_store::{HashedCode, NoMemory};
+use pt_code::NoMemory;
+use pt_shards::HashedCode;
 use std::alloc::Global;
 use std::marker::Model;
 

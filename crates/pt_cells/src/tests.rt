@@ -4,7 +4,7 @@ ghost use Rattle.pt_cells.specs.Seeing.{IsOf};
 
 use crate::*;
 use pt_code::read_code;
-use pt_store::{HashedCode, MAX_CODES};
+use pt_shards::{HashedCode, MAX_CODES};
 use std::alloc::{AllocError, Global};
 use std::sync::Arc;
 use std::test::Fail;

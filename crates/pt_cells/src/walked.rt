@@ -3,7 +3,8 @@ ghost use Rattle.std.specs.Prelude.{◌≡◌, IfOk};
 ghost use Rattle.once_cell.specs.Once.{cell_name};
 
 use once_cell::race::{Note, OnceBox};
-use pt_store::{HashedCode, NoMemory};
+use pt_code::NoMemory;
+use pt_shards::HashedCode;
 use std::alloc::Global;
 use std::marker::Model;
 

@@ -78,19 +78,19 @@ fn compare_states(
     shape: &Shape,
     best: &Best,
     entry: u32,
-    order: &mut Order,
-) -> Ordering
+    order: Order,
+) -> (Ordering, Order)
     requires component { IsComponent (component piece.now) }
     requires connected { IsStronglyConnected (component piece.now) }
     requires shape { IsShape (component piece.now) shape.now }
     requires best { IsBest (component piece.now) shape.now.highs.items best.now }
     requires entry { entry < piece.now.states }
-    requires room { vec_len order.old.places ≡ piece.now.states }
-    ensures order { result ≡ slice_cmp nat_cmp (outputs_part (component piece.now) (states_in_order (component piece.now) entry)) (outputs_part (component piece.now) (states_in_order (component piece.now) best.now.entry)) }
-    ensures room { vec_len order.new.places ≡ vec_len order.old.places }
+    requires room { vec_len order.places ≡ piece.now.states }
+    ensures order { result.0 ≡ slice_cmp nat_cmp (outputs_part (component piece.now) (states_in_order (component piece.now) entry)) (outputs_part (component piece.now) (states_in_order (component piece.now) best.now.entry)) }
+    ensures room { vec_len result.1.places ≡ vec_len order.places }
 {
     if shape.flat {
-        return Ordering::Equal;
+        return (Ordering::Equal, order);
     }
     compare_rows(piece, shape, best, entry, order)
 }
@@ -102,25 +102,29 @@ fn compare_entry(
     shape: &Shape,
     best: &Best,
     entry: u32,
+    order: Order,
     side: &mut Side,
     other: &mut Side,
-) -> Result<Ordering, NoMemory>
+) -> Result<(Ordering, Order), NoMemory>
     requires component { IsComponent (component piece.now) }
     requires connected { IsStronglyConnected (component piece.now) }
     requires shape { IsShape (component piece.now) shape.now }
     requires best { IsBest (component piece.now) shape.now.highs.items best.now }
     requires entry { entry < piece.now.states }
+    requires own_room { vec_len order.places ≡ piece.now.states }
     requires room { vec_len side.old.order.places ≡ piece.now.states }
     requires other_room { vec_len other.old.order.places ≡ piece.now.states }
-    ensures order { IfOk result (λ o. o ≡ slice_cmp nat_cmp (code_from (component piece.now) entry) (code_from (component piece.now) best.now.entry)) }
+    ensures order { IfOk result (λ found. found.0 ≡ slice_cmp nat_cmp (code_from (component piece.now) entry) (code_from (component piece.now) best.now.entry)) }
+    ensures own_room { IfOk result (λ found. vec_len found.1.places ≡ vec_len order.places) }
     ensures room { vec_len side.new.order.places ≡ vec_len side.old.order.places }
     ensures other_room { vec_len other.new.order.places ≡ vec_len other.old.order.places }
 {
-    let order = compare_states(piece, shape, best, entry, &mut side.order);
-    let Ordering::Equal = order else {
-        return Ok(order);
+    let (by_outputs, order) = compare_states(piece, shape, best, entry, order);
+    let Ordering::Equal = by_outputs else {
+        return Ok((by_outputs, order));
     };
-    compare_links(alloc, piece, entry, best.entry, side, other)
+    let by_links = compare_links(alloc, piece, entry, best.entry, side, other)?;
+    Ok((by_links, order))
 }
 
 /// Makes an entry the best one where its code is less.
@@ -156,11 +160,15 @@ fn best_of(alloc: Global, piece: &Piece) -> Result<Best, NoMemory>
         run: 0,
     };
     set_best(piece, &shape, 0, &mut best);
+    let mut order = Order::new(alloc, piece.states)?;
     let mut side = Side::new(alloc, piece.states)?;
     let mut other = Side::new(alloc, piece.states)?;
     for entry in 1..piece.states {
-        let order = compare_entry(alloc, piece, &shape, &best, entry, &mut side, &mut other)?;
-        improve(piece, &shape, order, entry, &mut best);
+        let (found, back) = compare_entry(
+            alloc, piece, &shape, &best, entry, order, &mut side, &mut other,
+        )?;
+        order = back;
+        improve(piece, &shape, found, entry, &mut best);
     }
     Ok(best)
 }
@@ -172,7 +180,7 @@ fn best_of(alloc: Global, piece: &Piece) -> Result<Best, NoMemory>
 /// of outputs are compared first, in the order of the search and without writing them, and a state with a row that is not a
 /// least one decides where the best order has least rows, as soon as a bound on its place tells that it will come; where all
 /// rows are the same, edges are compared side by side in both searches. The code is written once. So the cost is near linear in the edges where states differ in what is near
-/// them; at worst it is states times edges. Memory: 4 bytes for each different near edge, about 42 for each state, and a set
+/// them; at worst it is states times edges. Memory: 4 bytes for each different near edge, about 50 for each state, and a set
 /// of the exits.
 pub fn least_code(alloc: Global, piece: &Piece) -> Result<Coded, NoMemory>
     requires component { IsComponent (component piece.now) }

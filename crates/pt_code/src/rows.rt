@@ -170,32 +170,34 @@ fn compare_from(piece: &Piece, shape: &Shape, best: &Best, states: &[u32], from:
 }
 
 /// How the outputs in the order from an entry compare with those in the best order. Breadth first, and only as far as they
-/// are the same and no bound decides.
+/// are the same and no bound decides. The order is the search's own while it runs, so that it stands in registers; it is
+/// handed back for the next search.
 pub(crate) fn compare_rows(
     piece: &Piece,
     shape: &Shape,
     best: &Best,
     entry: u32,
-    order: &mut Order,
-) -> Ordering
+    order: Order,
+) -> (Ordering, Order)
     requires component { IsComponent (component piece.now) }
     requires connected { IsStronglyConnected (component piece.now) }
     requires shape { IsShape (component piece.now) shape.now }
     requires best { IsBest (component piece.now) shape.now.highs.items best.now }
     requires entry { entry < piece.now.states }
-    requires room { vec_len order.old.places ≡ piece.now.states }
-    ensures order { result ≡ slice_cmp nat_cmp (outputs_part (component piece.now) (states_in_order (component piece.now) entry)) (outputs_part (component piece.now) (states_in_order (component piece.now) best.now.entry)) }
-    ensures room { vec_len order.new.places ≡ vec_len order.old.places }
+    requires room { vec_len order.places ≡ piece.now.states }
+    ensures order { result.0 ≡ slice_cmp nat_cmp (outputs_part (component piece.now) (states_in_order (component piece.now) entry)) (outputs_part (component piece.now) (states_in_order (component piece.now) best.now.entry)) }
+    ensures room { vec_len result.1.places ≡ vec_len order.places }
 {
+    let mut order = order;
     order.begin(entry);
     let mut compared = 0;
     for next in 0..piece.states as usize {
         let verdict = compare_from(piece, shape, best, &order.states, compared);
         let Ordering::Equal = verdict else {
-            return verdict;
+            return (verdict, order);
         };
         compared = order.states.len();
-        visit_next(&shape.near, order, next);
+        visit_next(&shape.near, &mut order, next);
     }
-    Ordering::Equal
+    (Ordering::Equal, order)
 }

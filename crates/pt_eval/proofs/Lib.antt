@@ -9,3 +9,4 @@ pub mod OutcomeLaws
 pub mod MarkLaws
 pub mod LevelLaws
 pub mod RunLaws
+pub mod ToldLaws

@@ -62,23 +62,6 @@ where-moved P Q into f bound home limit lists store.NoMemory refused = tt
 
 -- ---- one level
 
--- one more result of a level
-pub result-more : LongerListsKnow → (home : Home) (old new : Lists) → Extends old new → (f : List (Node × Position)) (bound : ℕ) (nodes : List ℕ) (n : ℕ) (results : List Outcome) (o : Outcome) → length results ≡ n →
-    ((k : ℕ) → k < n → IsResult home old f bound (slice_index nodes k) (outcome_at results k)) → IsResult home new f bound (slice_index nodes n) o →
-    (k : ℕ) → k < n + 1 → IsResult home new f bound (slice_index nodes k) (outcome_at (results ++ o ∷ []) k)
-result-more law home old new longer f bound nodes n results o count each last k lt =
-    elim (cases_lt k n) [
-      | inl before ↦
-          (let within : k < length results = omega (arith, count) in
-          let same : outcome_at (results ++ o ∷ []) k ≡ outcome_at results k = get_or-append results (o ∷ []) Pending k within in
-          let (is, settled) = each k before in
-          subst (λ (p : Outcome). IsResult home new f bound (slice_index nodes k) p) (sym same) (outcome-longer law home old new longer f bound (slice_index nodes k) (outcome_at results k) is, settled))
-      | inr from ↦
-          (let here : k ≡ n = omega arith in
-          let same : outcome_at (results ++ o ∷ []) k ≡ o = ap (outcome_at (results ++ o ∷ [])) (here ∙ sym count) ∙ get_or-append_seam results o [] Pending in
-          subst (λ (p : Outcome). IsResult home new f bound (slice_index nodes k) p) (sym same) (subst (λ (j : ℕ). IsResult home new f bound (slice_index nodes j) o) (sym here) last))
-    ]
-
 -- ---- writing results
 
 pub written-more : (nodes : List ℕ) (results : List Outcome) (n : ℕ) (old mid : List Outcome) → slice_index nodes n < length old → AreWritten nodes results n old mid → AreWritten nodes results (n + 1) old (set mid (slice_index nodes n) (outcome_at results n))
@@ -144,16 +127,16 @@ module _ (home : Home) (lists : Lists) (f : List (Node × Position)) (bound : �
 abbrev pub IsDoneBefore : List (Vec ℕ) → ℕ → ℕ → Type 0
 IsDoneBefore rows n i = (y : ℕ) × (y < n) × ContainsByRecursion i (row_of rows y)
 
-pub done-more : (rows : List (Vec ℕ)) (n : ℕ) (old new : List Outcome) (nodes : List ℕ) → nodes ≡ row_of rows n → ((i : ℕ) → IsSettled (outcome_at old i) ⊎ ContainsByRecursion i nodes → IsSettled (outcome_at new i)) → ((i : ℕ) → IsSettled (outcome_at new i) → IsSettled (outcome_at old i) ⊎ ContainsByRecursion i nodes) →
+pub done-more : (rows : List (Vec ℕ)) (n : ℕ) (old new : List Outcome) (nodes : List ℕ) → ((i : ℕ) → ContainsByRecursion i nodes ↔ ContainsByRecursion i (row_of rows n)) → ((i : ℕ) → IsSettled (outcome_at old i) ⊎ ContainsByRecursion i nodes → IsSettled (outcome_at new i)) → ((i : ℕ) → IsSettled (outcome_at new i) → IsSettled (outcome_at old i) ⊎ ContainsByRecursion i nodes) →
     ((i : ℕ) → IsSettled (outcome_at old i) ↔ IsDoneBefore rows n i) → (i : ℕ) → IsSettled (outcome_at new i) ↔ IsDoneBefore rows (n + 1) i
-done-more rows n old new nodes is into back was i = (
+done-more rows n old new nodes same into back was i = (
   λ settled. elim (back i settled) [
     | inl before ↦ (let (y, lt, found) = (was i).0 before in (y, omega arith, found))
-    | inr found ↦ (n, omega arith, subst (λ (xs : List ℕ). ContainsByRecursion i xs) is found)
+    | inr found ↦ (n, omega arith, (same i).0 found)
   ],
   λ (y, lt, found). elim (cases_lt y n) [
     | inl before ↦ into i (inl ((was i).1 (y, before, found)))
-    | inr from ↦ (let here : y ≡ n = omega arith in into i (inr (subst (λ (xs : List ℕ). ContainsByRecursion i xs) (ap (row_of rows) here ∙ sym is) found)))
+    | inr from ↦ (let here : y ≡ n = omega arith in into i (inr ((same i).1 (subst (λ (z : ℕ). ContainsByRecursion i (row_of rows z)) here found))))
   ],
 )
 

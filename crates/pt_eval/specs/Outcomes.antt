@@ -1,5 +1,5 @@
 -- What is known of a node while a formula is evaluated.
-use Rattle.std.specs.Prelude.{◌≡◌, ◌⊎◌, ℕ, ◌<◌, List, length, slice_index, slice_index_or}
+use Rattle.std.specs.Prelude.{◌≡◌, ◌⊎◌, ℕ, ◌<◌, ◌≤◌, List, length, slice_index, slice_index_or}
 use Rattle.pt_sets.specs.Elements.{ContainsByRecursion}
 use Rattle.pt_sets.specs.Lists.{Lists, Home}
 use Rattle.pt_store.specs.declared.fault.StoreFault.{StoreFault}
@@ -67,6 +67,14 @@ pub record AreOutcomes (home : Home) (lists : Lists) (f : List (Node × Position
 -- all children of the node are done with
 abbrev pub HasSettledChildren : List (Node × Position) → List Outcome → ℕ → Type 0
 HasSettledChildren f outcomes i = (c : ℕ) → ContainsByRecursion c (children (node_at f i)) → IsSettled (outcome_at outcomes c)
+
+-- the work at the node may begin: its children are done with, and what is known of all nodes is right
+pub record MayBegin (home : Home) (lists : Lists) (f : List (Node × Position)) (bound : ℕ) (outcomes : List Outcome) (i : ℕ) : Type 0 where
+  pub are : AreOutcomes home lists f bound outcomes
+  pub inside : i < length f
+  pub ready : HasSettledChildren f outcomes i
+  pub some : 0 < bound
+  pub few : bound ≤ 65536
 
 -- nodes whose children are done with
 abbrev pub AreReady : List (Node × Position) → List Outcome → List ℕ → Type 0

@@ -1,5 +1,5 @@
 // Evaluation of the roots of a formula.
-ghost use Rattle.std.specs.Prelude.{◌≡◌, ◌≢◌, ◌↔◌, ℕ, ◌+◌, ◌*◌, ◌<◌, ◌≤◌, length, slice_get, slice_index, Some, IfOk, IfErr, OnOk, IfSome, IfNone};
+ghost use Rattle.std.specs.Prelude.{◌≡◌, ◌≢◌, ◌↔◌, ℕ, ◌+◌, ◌*◌, ◌<◌, ◌≤◌, length, map, slice_get, slice_index, All, Some, IfOk, IfErr, OnOk, IfSome, IfNone};
 ghost use Rattle.std.specs.List.{AllByRecursion};
 ghost use Rattle.pt_sets.specs.Lists.{Extends};
 ghost use Rattle.pt_formula.specs.Costs.{NoneRefused};
@@ -10,12 +10,13 @@ ghost use Rattle.pt_eval.specs.Outcomes.{AreOutcomes, AreWritten, IsSettled, Ref
 
 use crate::fault::EvalFault;
 use crate::gate::Gate;
-use crate::level::evaluate_level;
+use crate::level::Level;
 use crate::levels::plan;
 use crate::outcome::Outcome;
 use pt_formula::{Formula, NodeId};
 use pt_handles::{Handle, longer_lists_know};
-use pt_store::{Codes, Interner, StoreFault};
+use pt_store::{Codes, Interner, Sharing, StoreFault};
+use pt_workers::share;
 use std::alloc::{AllocError, Global};
 use std::thread::Threads;
 
@@ -25,7 +26,10 @@ use std::thread::Threads;
 /// The nodes that the roots reach are evaluated, each once: level by level, a leaf at level 0 and another node one level above
 /// its highest child, and those of one level by number. The bound, from 1 to 65,536, is that of every node. A node with a
 /// refused descendant is left out; all others are evaluated, also where one child already decides the answer. `gate` is told
-/// right before and right after each node's work. There are 1 to 16 workers; all work is done on the caller's thread.
+/// right before and right after each node's work. There are 1 to 16 workers: of the nodes of one level the j-th by number, from 0,
+/// goes to worker j mod `workers`. Each worker that has a node works through a pass of its own, in a thread of its own where
+/// one can be made, and the passes are joined in the order of the workers; a level of one node is evaluated on the caller's
+/// thread.
 ///
 /// Refuses for want of memory; with `Full` only where the list of that shard has as many codes as it may hold and the lists
 /// lack the solutions of a node that the roots reach whose cost, and that of each descendant, is within the bound; and with
@@ -34,7 +38,7 @@ use std::thread::Threads;
 /// pass extend the old ones, and at most the formula's length times the bound codes were offered.
 ///
 /// Besides the operations at the nodes the time is linear in the formula's length.
-pub fn evaluate<I: Interner, G: Gate, R: Threads + Sync>(
+pub fn evaluate<I: Sharing, G: Gate, R: Threads + Sync>(
     rt: &R,
     alloc: Global,
     store: &I,
@@ -63,7 +67,9 @@ pub fn evaluate<I: Interner, G: Gate, R: Threads + Sync>(
 {
     formula.is_formula();
     let rows = plan(alloc, formula, roots)?;
-    let outcomes = match evaluate_rows(rt, alloc, store, pass, formula, bound, gate, &rows) {
+    let outcomes = match evaluate_rows(
+        rt, alloc, store, pass, formula, bound, workers, gate, &rows,
+    ) {
         Ok(outcomes) => outcomes,
         Err(fault) => return Err(EvalFault::from(fault)),
     };
@@ -75,13 +81,14 @@ pub fn evaluate<I: Interner, G: Gate, R: Threads + Sync>(
 }
 
 /// The outcome of each node in the lists, evaluated list by list; of the others none yet.
-fn evaluate_rows<I: Interner, G: Gate, R: Threads + Sync>(
+fn evaluate_rows<I: Sharing, G: Gate, R: Threads + Sync>(
     rt: &R,
     alloc: Global,
     store: &I,
     pass: &mut I::Pass,
     formula: &Formula,
     bound: u32,
+    workers: u32,
     gate: &G,
     rows: &[Vec<NodeId>],
 ) -> Result<Vec<Outcome>, StoreFault>
@@ -89,6 +96,7 @@ fn evaluate_rows<I: Interner, G: Gate, R: Threads + Sync>(
     requires ordered { AreOrdered formula.now rows.now }
     requires some { 0 < bound }
     requires few { bound ≤ 65536 }
+    requires some_worker { 0 < workers }
     ensures kept { I.owns store.now pass.new }
     ensures extends { Extends (I.Pass.lists pass.old) (I.Pass.lists pass.new) }
     ensures outcomes { IfOk result (λ outcomes. AreOutcomes I.Pass.home (I.Pass.lists pass.new) formula.now bound outcomes.items) }
@@ -101,8 +109,15 @@ fn evaluate_rows<I: Interner, G: Gate, R: Threads + Sync>(
         return Err(StoreFault::NoMemory);
     };
     for row in rows {
-        match evaluate_level(rt, alloc, store, pass, formula, bound, gate, &outcomes, row) {
-            Ok(results) => write_results(&mut outcomes, row, &results),
+        let level = Level {
+            rt,
+            formula,
+            bound,
+            gate,
+            outcomes: &outcomes,
+        };
+        match share(rt, alloc, store, pass, &level, row, workers) {
+            Ok(told) => write_results(&mut outcomes, &told),
             Err(fault) => return Err(fault),
         }
     }
@@ -118,13 +133,12 @@ fn pending(alloc: Global, count: u32) -> Result<Vec<Outcome>, AllocError>
 }
 
 /// Puts each result at its node.
-fn write_results(outcomes: &mut Vec<Outcome>, nodes: &[NodeId], results: &[Outcome])
-    requires count { length results.now ≡ length nodes.now }
-    requires nodes { (k : ℕ) → k < length nodes.now → slice_index nodes.now k < length outcomes.old.items }
-    ensures { AreWritten nodes.now results.now (length nodes.now) outcomes.old.items outcomes.new.items }
+fn write_results(outcomes: &mut Vec<Outcome>, told: &[(NodeId, Outcome)])
+    requires { All (λ t. t.0 < length outcomes.old.items) told.now }
+    ensures { AreWritten (map (λ t. t.0) told.now) (map (λ t. t.1) told.now) (length told.now) outcomes.old.items outcomes.new.items }
 {
-    for (k, node) in nodes.iter().enumerate() {
-        outcomes[*node as usize] = results[k];
+    for (node, outcome) in told {
+        outcomes[*node as usize] = *outcome;
     }
 }
 

@@ -4,7 +4,7 @@ ghost use Rattle.std.specs.Prelude.{◌<◌};
 use crate::*;
 use pt_formula::{Formula, FormulaFault, Kind, Node, NodeId, Op, Position, Var};
 use pt_handles::expand;
-use pt_store::{LocalStore, OneShard};
+use pt_store::{OneShard, SharedStore};
 use pt_tables::Table;
 use std::alloc::Global;
 use std::test::Fail;
@@ -88,7 +88,7 @@ fn solve<R: Threads + Sync>(
     if limit == 0 || limit > 1_000_000 {
         return Err("limit")?;
     }
-    let (store, mut pass) = LocalStore::new(alloc, 1, limit, OneShard)?;
+    let (store, mut pass) = SharedStore::new(alloc, 1, limit, OneShard)?;
     match evaluate(
         rt,
         alloc,
@@ -295,7 +295,7 @@ fn made_node(formula: &mut Formula, alloc: Global, choice: u64) -> Result<NodeId
 }
 
 // The answers for all nodes at all vectors, node by node.
-fn truths_of(alloc: Global, formula: &Formula) -> Result<Vec<bool>, Fail> {
+pub(crate) fn truths_of(alloc: Global, formula: &Formula) -> Result<Vec<bool>, Fail> {
     let mut truths = Vec::new(alloc);
     for id in 0..formula.len() {
         for cell in 0..CELLS {
@@ -307,7 +307,7 @@ fn truths_of(alloc: Global, formula: &Formula) -> Result<Vec<bool>, Fail> {
 }
 
 // Whether the set of the automaton has just the vectors at which the node holds.
-fn agrees(
+pub(crate) fn agrees(
     alloc: Global,
     formula: &Formula,
     truths: &[bool],
@@ -330,8 +330,8 @@ fn agrees(
     Ok(true)
 }
 
-// Whether the last two nodes of a made-up formula have the solutions that they should have.
-fn made_up_agrees<R: Threads + Sync>(rt: &R, alloc: Global, seed: u64) -> Result<bool, Fail> {
+// A made-up formula, with its last two nodes.
+pub(crate) fn made_up(alloc: Global, seed: u64) -> Result<(Formula, NodeId, NodeId), Fail> {
     let mut formula = Formula::new(alloc)?;
     let mut state = seed;
     let mut last = 0;
@@ -347,6 +347,12 @@ fn made_up_agrees<R: Threads + Sync>(rt: &R, alloc: Global, seed: u64) -> Result
             made_node(&mut formula, alloc, state >> 33)?
         };
     }
+    Ok((formula, last, other))
+}
+
+// Whether the last two nodes of a made-up formula have the solutions that they should have.
+fn made_up_agrees<R: Threads + Sync>(rt: &R, alloc: Global, seed: u64) -> Result<bool, Fail> {
+    let (formula, last, other) = made_up(alloc, seed)?;
     let truths = truths_of(alloc, &formula)?;
     let solved = solve(rt, alloc, &formula, [last, other], 65_536, 1_000_000)??;
     let first = agrees(

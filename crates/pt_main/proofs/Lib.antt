@@ -6,7 +6,6 @@ pub mod Underway
 pub mod Endings
 pub mod Growing
 pub mod Whole
-pub mod Rooms
 pub mod FirstWide
 pub mod OneStep
 pub mod OneRun

@@ -17,12 +17,12 @@ use pt_drill::{drill_script, last_line, summary};
 use pt_eval::Gate;
 use pt_io::{Sink, write_all};
 use pt_options::{Mode, Options};
-use pt_store::{Codes, Interner};
+use pt_store::{Codes, Interner, Sharing};
 use std::alloc::Global;
 use std::thread::Threads;
 
 /// Answers the script of the seed and the size into memory, and writes the line that sums up its output, or its error line.
-pub(crate) fn drill<K: Sink, G: Gate, I: Interner, R: Threads + Sync>(
+pub(crate) fn drill<K: Sink, G: Gate, I: Sharing, R: Threads + Sync>(
     rt: &R,
     alloc: Global,
     given: Options,

@@ -1,7 +1,4 @@
-ghost use Rattle.std.specs.Prelude.{◌<◌, ◌≤◌, ◌≡◌, ℕ, Bool, List};
-ghost use Rattle.pt_sets.specs.Lists.{Home};
-ghost use Rattle.pt_store.specs.Local.{Size, LocalLists, Owns};
-ghost use Rattle.pt_main.specs.Ending.{HasRoom};
+ghost use Rattle.std.specs.Prelude.{◌≤◌, ◌≡◌, ℕ, Bool, List};
 ghost use Rattle.pt_main.specs.Output.{IsOutput, IsFrontOf, IsFrontOfOutput};
 ghost use Rattle.pt_main.specs.Wanted.{IsWork, IsScriptWork};
 ghost use Rattle.pt_main.specs.Modes.{IsDefined, IsFrontOfDefined};
@@ -11,12 +8,6 @@ use pt_eval::refusals_are_exact;
 use pt_options::words::options_are_one;
 use pt_read::laws::{commands_that_are_read_fit, scopes_stay_sound};
 use pt_script::laws::commands_have_a_reply_or_a_refusal;
-
-/// Where fewer codes were offered to the pass of a local store than a shard may have, no list is at the limit. So a run
-/// over such a store cannot end with a full shard where the offers before it and its work are together below the limit.
-pub fn few_offers_leave_room()
-    ensures { (home : Home) (store : Size) (pass : LocalLists) → Owns home store pass → pass.offers < store.limit → HasRoom store.limit pass.lists }
-{}
 
 /// A text has at most one output and one status under a bound.
 pub fn outputs_are_one()

@@ -21,7 +21,7 @@ use pt_options::{Mode, Options, WordsFault};
 use pt_read::laws::{commands_push_few_levels, texts_give_out_few_numbers};
 use pt_read::{Command, ReadKind, ReadRefusal, Reader};
 use pt_script::{Reply, Session, SessionFault, write_fault, write_refusal, write_too_long};
-use pt_store::{Codes, Interner};
+use pt_store::{Codes, Interner, Sharing};
 use std::alloc::Global;
 use std::thread::Threads;
 
@@ -38,7 +38,7 @@ const LIMIT: usize = 4_194_304;
 ///
 /// Where the words give options, neither stream fails and no list of the pass comes to the store's limit, the answer is `Done`
 /// or `Refused`, or want of memory.
-pub fn run<S: Source, K: Sink, G: Gate, I: Interner, R: Threads + Sync>(
+pub fn run<S: Source, K: Sink, G: Gate, I: Sharing, R: Threads + Sync>(
     rt: &R,
     alloc: Global,
     words: &[String],
@@ -79,7 +79,7 @@ pub fn run<S: Source, K: Sink, G: Gate, I: Interner, R: Threads + Sync>(
 }
 
 /// Answers the script that the source gives.
-fn solve<S: Source, K: Sink, G: Gate, I: Interner, R: Threads + Sync>(
+fn solve<S: Source, K: Sink, G: Gate, I: Sharing, R: Threads + Sync>(
     rt: &R,
     alloc: Global,
     given: Options,
@@ -115,7 +115,7 @@ fn solve<S: Source, K: Sink, G: Gate, I: Interner, R: Threads + Sync>(
 }
 
 /// Answers the commands of a text that is not too long.
-pub(crate) fn answer<K: Sink, G: Gate, I: Interner, R: Threads + Sync>(
+pub(crate) fn answer<K: Sink, G: Gate, I: Sharing, R: Threads + Sync>(
     rt: &R,
     alloc: Global,
     text: &[u8],
@@ -172,7 +172,7 @@ pub(crate) fn answer<K: Sink, G: Gate, I: Interner, R: Threads + Sync>(
 }
 
 /// Answers a command, and writes its reply or the line of its refusal. The run goes on, or it ends as the status says.
-fn answer_command<K: Sink, G: Gate, I: Interner, R: Threads + Sync>(
+fn answer_command<K: Sink, G: Gate, I: Sharing, R: Threads + Sync>(
     rt: &R,
     alloc: Global,
     session: &mut Session,

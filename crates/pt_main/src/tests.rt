@@ -2,7 +2,7 @@
 use crate::{Status, run};
 use pt_eval::Open;
 use pt_io::{MemSink, MemSource};
-use pt_store::{Codes, LocalStore, Mixed, OneShard};
+use pt_store::{Codes, Mixed, OneShard, SharedStore};
 use std::alloc::Global;
 use std::process::Abort;
 use std::test::Fail;
@@ -38,7 +38,7 @@ fn expect(
     let bytes = script.as_bytes().to_vec(alloc)?;
     let mut source = MemSource::new(bytes, 5, Vec::new(alloc));
     let mut sink = MemSink::new(alloc, 7, Vec::new(alloc))?;
-    let (store, mut pass) = LocalStore::new(alloc, 3, 100_000, Mixed)?;
+    let (store, mut pass) = SharedStore::new(alloc, 3, 100_000, Mixed)?;
     let status = run(
         rt,
         alloc,
@@ -251,7 +251,7 @@ pub(crate) fn ending(
     let mut source = MemSource::new(script.to_vec(alloc)?, 2, vec![in alloc; read]?);
     let mut sink = MemSink::new(alloc, 3, vec![in alloc; write]?)?;
     let limit = limit.clamp(1, 100_000);
-    let (store, mut pass) = LocalStore::new(alloc, 1, limit, OneShard)?;
+    let (store, mut pass) = SharedStore::new(alloc, 1, limit, OneShard)?;
     let status = run(
         rt,
         alloc,
@@ -415,7 +415,7 @@ fn a_text_past_the_limit_is_refused(rt: HostRuntime) -> Result<(), Fail> {
     let blanks = vec![in alloc; 32; 4_194_305]?;
     let mut source = MemSource::new(blanks, 1 << 20, Vec::new(alloc));
     let mut sink = MemSink::new(alloc, 100, Vec::new(alloc))?;
-    let (store, mut pass) = LocalStore::new(alloc, 1, 9, OneShard)?;
+    let (store, mut pass) = SharedStore::new(alloc, 1, 9, OneShard)?;
     let status = run(
         &rt,
         alloc,

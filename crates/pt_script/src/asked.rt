@@ -16,12 +16,12 @@ use pt_formula::NodeId;
 use pt_handles::{Handle, longer_lists_know};
 use pt_product::widen;
 use pt_read::{Predicate, Scope};
-use pt_store::{Codes, Interner};
+use pt_store::{Codes, Interner, Sharing};
 use std::alloc::Global;
 use std::thread::Threads;
 
 /// Known handles of the solutions of the roots. What is refused names the place of the refused node.
-pub(crate) fn evaluate_roots<I: Interner, G: Gate, R: Threads + Sync>(
+pub(crate) fn evaluate_roots<I: Sharing, G: Gate, R: Threads + Sync>(
     rt: &R,
     alloc: Global,
     store: &I,
@@ -92,7 +92,7 @@ pub(crate) fn widen_body<I: Interner, R: Threads + Sync>(
 }
 
 /// A handle of the set of a predicate.
-pub(crate) fn one_set<I: Interner, G: Gate, R: Threads + Sync>(
+pub(crate) fn one_set<I: Sharing, G: Gate, R: Threads + Sync>(
     rt: &R,
     alloc: Global,
     store: &I,
@@ -125,7 +125,7 @@ pub(crate) fn one_set<I: Interner, G: Gate, R: Threads + Sync>(
 }
 
 /// Handles of the sets of two predicates.
-pub(crate) fn two_sets<I: Interner, G: Gate, R: Threads + Sync>(
+pub(crate) fn two_sets<I: Sharing, G: Gate, R: Threads + Sync>(
     rt: &R,
     alloc: Global,
     store: &I,

@@ -11,7 +11,7 @@ use pt_formula::Position;
 use pt_handles::Handle;
 use pt_query::{WitnessFault, least_member, queries_tell_of_sets_alone};
 use pt_read::{Command, CommandKind, Constant, Predicate, ReadRefusal, Reader, Scope};
-use pt_store::{Codes, Interner};
+use pt_store::{Codes, Interner, Sharing};
 use std::alloc::Global;
 use std::marker::Model;
 use std::thread::Threads;
@@ -83,7 +83,7 @@ impl Session {
 
     /// The reply of a command, and what stands after it. After a fault the session answers that fault for ever. Linear in
     /// the work of the command's evaluation and queries; a command that asks for no set takes no more than its own size.
-    pub fn execute<I: Interner, G: Gate, R: Threads + Sync>(
+    pub fn execute<I: Sharing, G: Gate, R: Threads + Sync>(
         &mut self,
         rt: &R,
         alloc: Global,
@@ -121,7 +121,7 @@ impl Session {
     }
 
     /// The bytes of the reply. What is refused changes nothing.
-    fn answer<I: Interner, G: Gate, R: Threads + Sync>(
+    fn answer<I: Sharing, G: Gate, R: Threads + Sync>(
         &mut self,
         rt: &R,
         alloc: Global,
@@ -180,7 +180,7 @@ impl Session {
     }
 
     /// `sat` with the least solution as the model, or `unsat`.
-    fn check_sat<I: Interner, G: Gate, R: Threads + Sync>(
+    fn check_sat<I: Sharing, G: Gate, R: Threads + Sync>(
         &mut self,
         rt: &R,
         alloc: Global,
@@ -225,7 +225,7 @@ impl Session {
     }
 
     /// What a command of one predicate says.
-    fn query_one<I: Interner, G: Gate, R: Threads + Sync>(
+    fn query_one<I: Sharing, G: Gate, R: Threads + Sync>(
         &self,
         rt: &R,
         alloc: Global,
@@ -258,7 +258,7 @@ impl Session {
     }
 
     /// What a command of two predicates says.
-    fn query_two<I: Interner, G: Gate, R: Threads + Sync>(
+    fn query_two<I: Sharing, G: Gate, R: Threads + Sync>(
         &self,
         rt: &R,
         alloc: Global,

@@ -3,7 +3,7 @@ use crate::{Session, SessionFault};
 use pt_eval::Open;
 use pt_formula::Position;
 use pt_read::Reader;
-use pt_store::{Codes, LocalStore, Mixed};
+use pt_store::{Codes, Mixed, SharedStore};
 use std::process::Abort;
 use std::test::Fail;
 
@@ -18,7 +18,7 @@ fn a_fault_is_answered_for_ever(rt: HostRuntime) -> Result<(), Fail> {
     };
     let mut reader = Reader::new(text);
     let mut session = Session::new(alloc)?;
-    let (store, mut pass) = LocalStore::new(alloc, 1, 1_000, Mixed)?;
+    let (store, mut pass) = SharedStore::new(alloc, 1, 1_000, Mixed)?;
     for turn in 0..5 {
         assert!(rt; session.scope().given() <= 1 << 31);
         let Ok(Some(command)) = session.read_command(alloc, &mut reader) else {

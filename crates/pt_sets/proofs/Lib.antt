@@ -1,5 +1,6 @@
 pub mod Examples
 pub mod ListLaws
+pub mod Positions
 pub mod Stepping
 pub mod Longer
 pub mod Paths

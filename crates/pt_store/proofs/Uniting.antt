@@ -5,8 +5,8 @@ use Rattle.std.proofs.lemmas.Bool.{cases_eq}
 use Rattle.std.proofs.lemmas.List.{get_or_past}
 use Rattle.pt_sets.specs.Lists.{Lists, list_of}
 use Rattle.pt_store.specs.Interning.{Joins}
-use Rattle.pt_store.specs.Shards.{JoinsLists}
-use Rattle.pt_store.specs.declared.shard_turn.ShardPass.{ShardPass}
+use Rattle.pt_shards.specs.Shards.{JoinsLists}
+use Rattle.pt_cells.specs.Seeing.{Seen}
 
 -- the lists of the last shards are joined, and the others are as they were
 pub record JoinedFrom (next : ℕ) (first second new : Lists) : Type 0 where
@@ -39,5 +39,5 @@ JoinedFrom-all first second new same same' joined = record {
 }
 
 -- the last of the passes that are left
-pub last-is : (passes behind all : List ShardPass) (last : ShardPass) → (passes ++ last ∷ []) ++ behind ≡ all → (other : ShardPass) → get_or all (length passes) other ≡ last
+pub last-is : (passes behind all : List Seen) (last : Seen) → (passes ++ last ∷ []) ++ behind ≡ all → (other : Seen) → get_or all (length passes) other ≡ last
 last-is passes behind all last whole other = ap (λ xs. get_or xs (length passes) other) (sym whole ∙ append_assoc passes (last ∷ []) behind) ∙ get_or-append_seam passes last behind other

@@ -1,68 +1,46 @@
-// Two threads over a shared store.
-ghost use Rattle.std.specs.Prelude.{◌≡◌, Some, IfOk, IfErr};
-ghost use Rattle.std.specs.Arc.{arc_value};
-ghost use Rattle.pt_sets.specs.Lists.{find, Extends};
-ghost use Rattle.pt_store.specs.Shared.{OwnsWaiting, lists_of};
+// Passes over a shared store.
+ghost use Rattle.std.specs.Prelude.{IfOk};
 
-use crate::tests::{ALL, MINUS_ONE, NONE, ZERO, shared};
+use crate::tests::{ALL, MINUS_ONE, NONE, ZERO, intern_apart, intern_two, shared};
 use crate::*;
 use pt_code::{Code, Place};
 use std::alloc::Global;
-use std::sync::{Arc, Wait};
+use std::sync::Arc;
 use std::test::Fail;
 use std::thread::{Threads, join};
 
-// Interns a code while the pass holds the shards.
-fn intern_held<R: Wait, S: Spread + Send>(
-    rt: &R,
-    alloc: Global,
-    store: &SharedStore<S>,
-    pass: SharedPass<S>,
-    code: Arc<Code>,
-) -> (SharedPass<S>, Result<Place, StoreFault>)
-    requires { OwnsWaiting store.now pass }
-    ensures owned { OwnsWaiting store.now result.0 }
-    ensures extends { Extends (lists_of pass.shards) (lists_of result.0.shards) }
-    ensures found { IfOk result.1 (λ place. find S.home (lists_of result.0.shards) (arc_value code) ≡ Some place) }
-{
-    match store.hold(rt, alloc, pass) {
-        Ok(mut held) => {
-            let answer = store.intern(alloc, &mut held, code);
-            (store.release(held), answer)
-        }
-        Err(refused) => (refused.pass, Err(StoreFault::NoMemory)),
-    }
-}
-
 // Interns three codes, one after another.
-fn intern_three<R: Wait, S: Spread + Send>(
-    rt: &R,
+fn intern_three<I: Interner>(
     alloc: Global,
-    store: &SharedStore<S>,
-    pass: SharedPass<S>,
+    store: &I,
+    mut pass: I::Pass,
     first: Arc<Code>,
     second: Arc<Code>,
     third: Arc<Code>,
-) -> (SharedPass<S>, Result<(Place, Place, Place), StoreFault>)
-    requires { OwnsWaiting store.now pass }
-    ensures owned { OwnsWaiting store.now result.0 }
-    ensures first { IfOk result.1 (λ places. find S.home (lists_of result.0.shards) (arc_value first) ≡ Some places.0) }
-    ensures second { IfOk result.1 (λ places. find S.home (lists_of result.0.shards) (arc_value second) ≡ Some places.1) }
-    ensures third { IfOk result.1 (λ places. find S.home (lists_of result.0.shards) (arc_value third) ≡ Some places.2) }
+) -> (I::Pass, Result<(Place, Place, Place), StoreFault>)
+    requires { I.owns store.now pass }
+    ensures { I.owns store.now result.0 }
 {
-    let (pass, one) = intern_held(rt, alloc, store, pass, first);
-    let (pass, two) = intern_held(rt, alloc, store, pass, second);
-    let (pass, three) = intern_held(rt, alloc, store, pass, third);
+    let one = store.intern(alloc, &mut pass, first);
+    let two = store.intern(alloc, &mut pass, second);
+    let three = store.intern(alloc, &mut pass, third);
     match (one, two, three) {
         (Ok(one), Ok(two), Ok(three)) => (pass, Ok((one, two, three))),
         _ => (pass, Err(StoreFault::NoMemory)),
     }
 }
 
-// Two threads intern the same codes in opposite orders, and are joined. Answers whether each code has one place, the list
-// is then full, and each code is still found.
-fn two_threads<R: Threads + Wait + Sync>(rt: &R, alloc: Global) -> Result<bool, Fail> {
-    let (store, mut first) = SharedStore::new(alloc, 1, 3, OneShard)?;
+// Two threads intern the same codes in opposite orders, each through a pass of its own, and are joined. Answers whether each
+// code has one place, where the joined pass finds it.
+fn two_threads<R: Threads + Sync, I: Sharing>(
+    rt: &R,
+    alloc: Global,
+    store: &I,
+    mut first: I::Pass,
+) -> Result<(bool, I::Pass), Fail>
+    requires { I.owns store.now first }
+    ensures { IfOk result (λ after. I.owns store.now after.1) }
+{
     let second = store.split(alloc, &mut first)?;
     let none = shared(alloc, &NONE)?;
     let all = shared(alloc, &ALL)?;
@@ -72,24 +50,16 @@ fn two_threads<R: Threads + Wait + Sync>(rt: &R, alloc: Global) -> Result<bool, 
         Arc::try_clone(&all)?,
         Arc::try_clone(&zero)?,
     );
-    let again = Arc::try_clone(&all)?;
-    let shop = &store;
     let (one, two) = join(
         rt,
-        || -> (
-            SharedPass<OneShard>,
-            Result<(Place, Place, Place), StoreFault>,
-        )
-            requires { OwnsWaiting shop.now first }
-            ensures { OwnsWaiting shop.entry.now result.0 }
-        { intern_three(rt, alloc, shop, first, none, all, zero) },
-        || -> (
-            SharedPass<OneShard>,
-            Result<(Place, Place, Place), StoreFault>,
-        )
-            requires { OwnsWaiting shop.now second }
-            ensures { OwnsWaiting shop.entry.now result.0 }
-        { intern_three(rt, alloc, shop, second, zero_again, all_again, none_again) },
+        || -> (I::Pass, Result<(Place, Place, Place), StoreFault>)
+            requires { I.owns store.now first }
+            ensures { I.owns store.entry.now result.0 }
+        { intern_three(alloc, store, first, none, all, zero) },
+        || -> (I::Pass, Result<(Place, Place, Place), StoreFault>)
+            requires { I.owns store.now second }
+            ensures { I.owns store.entry.now result.0 }
+        { intern_three(alloc, store, second, zero_again, all_again, none_again) },
     );
     let (mut pass, places) = one;
     let (other, others) = two;
@@ -97,24 +67,91 @@ fn two_threads<R: Threads + Wait + Sync>(rt: &R, alloc: Global) -> Result<bool, 
     let (zero_again, all_again, none_again) = others?;
     let joined = store.join(alloc, &mut pass, other).is_ok();
     let one_place = none == none_again && all == all_again && zero == zero_again;
-    let offers = pass.offers();
-    let (pass, refused) = intern_held(rt, alloc, &store, pass, shared(alloc, &MINUS_ONE)?);
-    let (pass, known) = intern_held(rt, alloc, &store, pass, again);
-    Ok(
-        joined
-            && one_place
-            && pass.count(0) == 3
-            && offers >= 3
-            && refused == Err(StoreFault::Full { shard: 0, count: 3 })
-            && known == Ok(all),
-    )
+    let found = pass.find(&*shared(alloc, &NONE)?) == Some(none)
+        && pass.find(&*shared(alloc, &ALL)?) == Some(all)
+        && pass.find(&*shared(alloc, &ZERO)?) == Some(zero);
+    Ok((joined && one_place && found, pass))
 }
 
 #[test]
 fn two_threads_intern_the_same_codes(rt: HostRuntime) -> Result<(), Fail> {
     let alloc = rt.alloc();
     for _ in 0..100u32 {
-        assert!(rt; two_threads(&rt, alloc)?);
+        let (store, first) = SharedStore::new(alloc, 1, 3, OneShard)?;
+        let (one_place, mut pass) = two_threads(&rt, alloc, &store, first)?;
+        assert!(rt; one_place && pass.count(0) == 3 && pass.offers() >= 3);
+        let refused = store.intern(alloc, &mut pass, shared(alloc, &MINUS_ONE)?);
+        assert!(rt; refused == Err(StoreFault::Full { shard: 0, count: 3 }));
     }
+    Ok(())
+}
+
+#[test]
+fn a_pass_shows_a_list_up_to_what_it_interned(rt: HostRuntime) -> Result<(), Fail> {
+    let alloc = rt.alloc();
+    let (store, mut first) = SharedStore::new(alloc, 1, 2, OneShard)?;
+    let mut second = store.split(alloc, &mut first)?;
+    let places = intern_two(
+        alloc,
+        &store,
+        &mut first,
+        shared(alloc, &NONE)?,
+        shared(alloc, &ALL)?,
+    )?;
+    let (one, two) = (Place { shard: 0, index: 0 }, Place { shard: 0, index: 1 });
+    assert!(rt; places == (one, two) && first.offers() == 2);
+    assert!(rt; second.count(0) == 0 && second.find(&*shared(alloc, &NONE)?) == None);
+
+    // The code that it interns, and not the one behind it.
+    let known = store.intern(alloc, &mut second, shared(alloc, &NONE)?);
+    assert!(rt; known == Ok(one) && second.count(0) == 1 && second.offers() == 1);
+
+    // All codes where the shard is full, so the next one is no offer.
+    let refused = store.intern(alloc, &mut second, shared(alloc, &ZERO)?);
+    assert!(rt; refused == Err(StoreFault::Full { shard: 0, count: 2 }));
+    assert!(rt; second.count(0) == 2 && second.offers() == 2);
+    let known = store.intern(alloc, &mut second, shared(alloc, &ALL)?);
+    assert!(rt; known == Ok(two) && second.offers() == 2 && store.limit() == 2);
+
+    assert!(rt; store.join(alloc, &mut first, second).is_ok());
+    assert!(rt; first.count(0) == 2 && first.offers() == 4);
+    Ok(())
+}
+
+#[test]
+fn other_shards_stay_as_the_pass_knew_them(rt: HostRuntime) -> Result<(), Fail> {
+    let alloc = rt.alloc();
+    let (store, mut first) = SharedStore::new(alloc, 16, 4, Mixed)?;
+    let mut second = store.split(alloc, &mut first)?;
+    let (here, other) = (shared(alloc, &NONE)?, shared(alloc, &ZERO)?);
+    let (home, away) = (7, 9);
+    assert!(rt; Mixed.shard(&here, 16) == home && Mixed.shard(&other, 16) == away);
+    let there = store.intern(alloc, &mut first, other)?;
+    let place = store.intern(alloc, &mut second, here)?;
+    assert!(rt;
+        place
+            == Place {
+                shard: home,
+                index: 0
+            }
+            && second.count(home) == 1
+    );
+    assert!(rt;
+        there
+            == Place {
+                shard: away,
+                index: 0
+            }
+            && second.count(away) == 0
+    );
+    let last = intern_apart(alloc, &store, &mut first, shared(alloc, &MINUS_ONE)?)?;
+    assert!(rt;
+        last == Place {
+            shard: away,
+            index: 1
+        } && first.count(away) == 2
+    );
+    assert!(rt; first.count(home) == 0 && store.join(alloc, &mut first, second).is_ok());
+    assert!(rt; first.count(home) == 1 && first.count(away) == 2 && first.offers() == 3);
     Ok(())
 }

@@ -5,7 +5,7 @@ ghost use Rattle.pt_sets.specs.Lists.{Lists, find, Extends, IsWithin};
 
 use crate::*;
 use pt_code::{Code, Place, read_code};
-use pt_store::{Codes, InTurns, Interner, OneShard, SharedStore, Sharing, StoreFault};
+use pt_store::{Codes, Interner, OneShard, SharedStore, Sharing, StoreFault};
 use std::alloc::{AllocError, Global};
 use std::sync::Arc;
 use std::test::Fail;
@@ -107,16 +107,15 @@ fn stand<P: Codes>(pass: &P, work: &Interns, told: &[(u32, Place)]) -> bool {
 fn numbers_are_dealt_in_turn(rt: HostRuntime) -> Result<(), Fail> {
     let alloc = rt.alloc();
     let (store, mut pass) = SharedStore::new(alloc, 1, 10, OneShard)?;
-    let turns = InTurns::new(&rt, &store);
-    let told = share(&rt, alloc, &turns, &mut pass, &Doubles, &[5, 3, 9, 4], 1)?;
+    let told = share(&rt, alloc, &store, &mut pass, &Doubles, &[5, 3, 9, 4], 1)?;
     assert!(rt; told.as_slice() == [(5, 10), (3, 6), (9, 18), (4, 8)].as_slice());
-    let told = share(&rt, alloc, &turns, &mut pass, &Doubles, &[5, 3, 9, 4], 2)?;
+    let told = share(&rt, alloc, &store, &mut pass, &Doubles, &[5, 3, 9, 4], 2)?;
     assert!(rt; told.as_slice() == [(5, 10), (9, 18), (3, 6), (4, 8)].as_slice());
-    let told = share(&rt, alloc, &turns, &mut pass, &Doubles, &[5, 3, 9, 4], 3)?;
+    let told = share(&rt, alloc, &store, &mut pass, &Doubles, &[5, 3, 9, 4], 3)?;
     assert!(rt; told.as_slice() == [(5, 10), (4, 8), (3, 6), (9, 18)].as_slice());
-    let told = share(&rt, alloc, &turns, &mut pass, &Doubles, &[7, 5, 7], 16)?;
+    let told = share(&rt, alloc, &store, &mut pass, &Doubles, &[7, 5, 7], 16)?;
     assert!(rt; told.as_slice() == [(7, 14), (5, 10), (7, 14)].as_slice());
-    let told = share(&rt, alloc, &turns, &mut pass, &Doubles, &[], 16)?;
+    let told = share(&rt, alloc, &store, &mut pass, &Doubles, &[], 16)?;
     assert!(rt; told.is_empty());
     Ok(())
 }
@@ -128,11 +127,10 @@ fn workers_intern_the_same_codes(rt: HostRuntime) -> Result<(), Fail> {
     for workers in [1u32, 2, 3, 16] {
         for _ in 0..50u32 {
             let (store, mut pass) = SharedStore::new(alloc, 1, 3, OneShard)?;
-            let turns = InTurns::new(&rt, &store);
 
             // Two workers meet the three codes in opposite orders.
             let numbers = [0, 2, 1, 1, 2, 0];
-            let told = share(&rt, alloc, &turns, &mut pass, &work, &numbers, workers)?;
+            let told = share(&rt, alloc, &store, &mut pass, &work, &numbers, workers)?;
             assert!(rt; told.len() == 6 && stand(&pass, &work, told.as_slice()));
             assert!(rt; pass.count(0) == 3 && pass.offers() >= 3 && pass.offers() <= 6);
         }
@@ -146,25 +144,24 @@ fn want_of_memory_goes_before_a_full_shard(rt: HostRuntime) -> Result<(), Fail> 
     let work = three_codes(alloc)?;
     let full = Some(StoreFault::Full { shard: 0, count: 2 });
     let (store, mut first) = SharedStore::new(alloc, 1, 2, OneShard)?;
-    let turns = InTurns::new(&rt, &store);
-    let mut second = turns.split(alloc, &mut first)?;
-    let told = share(&rt, alloc, &turns, &mut first, &work, &[0, 1], 2)?;
+    let mut second = store.split(alloc, &mut first)?;
+    let told = share(&rt, alloc, &store, &mut first, &work, &[0, 1], 2)?;
     assert!(rt; stand(&first, &work, told.as_slice()) && second.count(0) == 0);
 
     // The pass has all codes of the full shard, also those that a worker met whose number was refused.
-    let told = share(&rt, alloc, &turns, &mut second, &work, &[2, 1, 0], 3);
+    let told = share(&rt, alloc, &store, &mut second, &work, &[2, 1, 0], 3);
     assert!(rt; told.err() == full && second.count(0) == 2);
     for workers in [1u32, 2, 3, 16] {
-        let told = share(&rt, alloc, &turns, &mut first, &work, &[0, 2, 1], workers);
+        let told = share(&rt, alloc, &store, &mut first, &work, &[0, 2, 1], workers);
         assert!(rt; told.err() == full);
-        let told = share(&rt, alloc, &turns, &mut first, &work, &[9, 2], workers);
+        let told = share(&rt, alloc, &store, &mut first, &work, &[9, 2], workers);
         assert!(rt; told.err() == Some(StoreFault::NoMemory));
     }
 
     // Number 2 is refused before number 9 on one thread alone.
-    let told = share(&rt, alloc, &turns, &mut first, &work, &[2, 9], 1);
+    let told = share(&rt, alloc, &store, &mut first, &work, &[2, 9], 1);
     assert!(rt; told.err() == full);
-    let told = share(&rt, alloc, &turns, &mut first, &work, &[2, 9], 2);
+    let told = share(&rt, alloc, &store, &mut first, &work, &[2, 9], 2);
     assert!(rt; told.err() == Some(StoreFault::NoMemory));
     Ok(())
 }

@@ -1,35 +1,42 @@
-use Rattle.std.proofs.Common.{◌≡◌, ◌+◌, ◌≤◌, ℕ, List, length, take, sym, subst, ◌∙◌, arith}
+use Rattle.std.proofs.Common.{◌≡◌, ◌+◌, ◌*◌, ◌<◌, ◌≤◌, ℕ, List, length, map, take, sym, subst, ◌∙◌, arith}
+use Rattle.std.specs.Prelude.{◌↔◌, All}
+use Rattle.std.proofs.lemmas.List.{length-map}
 use Rattle.pt_sets.specs.Elements.{ContainsByRecursion}
 use Rattle.pt_sets.proofs.ListLaws.{Extends-trans}
 use Rattle.pt_eval.specs.declared.outcome.Outcome.{Outcome}
-use Rattle.pt_eval.specs.Levels.{row_of, total, IsPlanned}
-use Rattle.pt_eval.specs.Outcomes.{AreReady, AreOutcomes, AreResults}
-use Rattle.pt_eval.proofs.RunLaws.{outcomes-longer, where-moved, level-outcomes, level-settled, settled-level, done-more, done-all, level-ready, row-at, row-planned, total-more, total-front, offers-within}
+use Rattle.pt_eval.specs.Levels.{row_of, total}
+use Rattle.pt_eval.specs.Outcomes.{AreOutcomes, AreResults, AreWritten, MayBegin}
+use Rattle.pt_eval.proofs.RunLaws.{outcomes-longer, level-outcomes, level-settled, settled-level, done-more, done-all, row-at, total-more, total-front, offers-within}
+use Rattle.pt_eval.proofs.ToldLaws.{level-begins, told-results, told-nodes, told-within, refuses-planned, offers-each, row-nodes}
 use Rattle.pt_eval.proofs.evaluation.evaluate_rows.Goals as goal
 
-pub evaluate_level-requires-clause-ready : goal.evaluate_level-requires-clause-ready
-evaluate_level-requires-clause-ready g c κs within =
+pub share-requires-clause-may_begin : goal.share-requires-clause-may_begin
+share-requires-clause-may_begin g c κs within =
     let rows = c.args.rows.now in
     let n = c.loop-row.row-index in
     let row : c.deref-in-loop-row.result.now ≡ row_of c.args.rows.now c.loop-row.row-index = c.deref-in-loop-row.ensures.value ∙ row-at rows n c.row-item.result c.loop-row-test.true c.row-item.is in
-    subst (λ (os : List Outcome). AreReady c.args.formula.now os c.deref-in-loop-row.result.now) (sym c.deref.ensures.value)
-    (level-ready c.args.formula.now rows n c.loop-row.outcomes.items c.deref-in-loop-row.result.now row c.requires.ordered c.loop-row.invariant.settled)
+    let home = g.I.Pass.Codes.home in
+    let lists = g.I.Pass.Codes.lists c.loop-row.pass in
+    subst (λ (os : List Outcome). All (λ i. MayBegin home lists c.args.formula.now c.args.bound os i) c.deref-in-loop-row.result.now) (sym c.deref.ensures.value)
+    (level-begins home lists c.args.formula.now c.args.bound rows n c.loop-row.outcomes.items c.deref-in-loop-row.result.now row c.requires.ordered c.loop-row.invariant.outcomes c.requires.some c.requires.few c.loop-row.invariant.settled)
 
-pub write_results-requires-clause-nodes : goal.write_results-requires-clause-nodes
-write_results-requires-clause-nodes g c k lt =
+pub write_results-requires : goal.write_results-requires
+write_results-requires g c =
     let rows = c.args.rows.now in
     let n = c.loop-row.row-index in
-    let row : c.deref-in-Ok-evaluate_level.result.now ≡ row_of c.args.rows.now c.loop-row.row-index = c.deref-in-Ok-evaluate_level.ensures.value ∙ row-at rows n c.row-item.result c.loop-row-test.true c.row-item.is in
-    let ready = level-ready c.args.formula.now rows n c.loop-row.outcomes.items c.deref-in-Ok-evaluate_level.result.now row c.requires.ordered c.loop-row.invariant.settled k lt in
-    omega (arith, ready.0, c.loop-row.invariant.outcomes.count)
+    let row : c.deref-in-loop-row.result.now ≡ row_of c.args.rows.now c.loop-row.row-index = c.deref-in-loop-row.ensures.value ∙ row-at rows n c.row-item.result c.loop-row-test.true c.row-item.is in
+    let are = c.in-Ok-share.ensures.ok in
+    let count = c.loop-row.invariant.outcomes.count in
+    subst (λ (ts : List (ℕ × Outcome)). All (λ t. t.0 < length c.loop-row.outcomes.items) ts) (sym c.deref-in-Ok-share.ensures.value)
+    (told-within c.deref-in-loop-row.result.now c.in-Ok-share.told.items (λ i. i < length c.loop-row.outcomes.items) are.once
+    (λ i found. (let inside = row-nodes c.args.formula.now rows n c.deref-in-loop-row.result.now row c.requires.ordered i found in omega (arith, inside, count))))
 
 pub returns-in-Err-clause-err : goal.returns-in-Err-clause-err
 returns-in-Err-clause-err g c =
     let rows = c.args.rows.now in
     let n = c.loop-row.row-index in
     let row : c.deref-in-loop-row.result.now ≡ row_of c.args.rows.now c.loop-row.row-index = c.deref-in-loop-row.ensures.value ∙ row-at rows n c.row-item.result c.loop-row-test.true c.row-item.is in
-    where-moved (λ (i : ℕ). ContainsByRecursion i c.deref-in-loop-row.result.now) (λ (i : ℕ). IsPlanned c.args.rows.now i) (row-planned c.args.rows.now c.loop-row.row-index c.deref-in-loop-row.result.now row)
-    c.args.formula.now c.args.bound g.I.Pass.Codes.home (g.I.Interner.limit_of c.args.store.now) (g.I.Pass.Codes.lists c.evaluate_level.new.pass) c.in-Err.fault c.in-Err.ensures.err
+    refuses-planned c.args.formula.now c.args.bound g.I.Pass.Codes.home (g.I.Interner.limit_of c.args.store.now) (g.I.Pass.Codes.lists c.share.new.pass) rows n c.deref-in-loop-row.result.now c.in-Err.fault row c.in-Err.ensures.err
 
 pub returns-in-Err-clause-offers : goal.returns-in-Err-clause-offers
 returns-in-Err-clause-offers g c =
@@ -40,38 +47,45 @@ returns-in-Err-clause-offers g c =
     let most = total-front rows (n + 1) in
     let few = c.requires.ordered.few in
     let fits : total (take c.loop-row.row-index c.args.rows.now) + length c.deref-in-loop-row.result.now ≤ length c.args.formula.now = omega (arith, more, most, few) in
-    offers-within (g.I.Pass.Codes.offered c.args.pass.now) (g.I.Pass.Codes.offered c.loop-row.pass) (g.I.Pass.Codes.offered c.evaluate_level.new.pass) (total (take n rows)) (length c.deref-in-loop-row.result.now) (length c.args.formula.now) c.args.bound
-    c.loop-row.invariant.offers c.evaluate_level.ensures.offers fits
+    let offered : g.I.Pass.Codes.offered c.share.new.pass ≤ g.I.Pass.Codes.offered c.loop-row.pass + length c.deref-in-loop-row.result.now * c.args.bound =
+    subst (λ (k : ℕ). g.I.Pass.Codes.offered c.share.new.pass ≤ g.I.Pass.Codes.offered c.loop-row.pass + k) (offers-each c.deref-in-loop-row.result.now c.args.bound) c.share.ensures.offers in
+    offers-within (g.I.Pass.Codes.offered c.args.pass.now) (g.I.Pass.Codes.offered c.loop-row.pass) (g.I.Pass.Codes.offered c.share.new.pass) (total (take n rows)) (length c.deref-in-loop-row.result.now) (length c.args.formula.now) c.args.bound
+    c.loop-row.invariant.offers offered fits
 
 pub loop-row-preserved : goal.loop-row-preserved
 loop-row-preserved g c =
     let home = g.I.Pass.Codes.home in
     let f = c.args.formula.now in
+    let bound = c.args.bound in
     let old = g.I.Pass.Codes.lists c.loop-row.pass in
-    let new = g.I.Pass.Codes.lists c.evaluate_level.new.pass in
+    let new = g.I.Pass.Codes.lists c.share.new.pass in
     let rows = c.args.rows.now in
     let n = c.loop-row.row-index in
     let before = c.loop-row.invariant in
-    let after = c.in-Ok-evaluate_level.ensures in
-    let first : c.deref-in-loop-row.result.now ≡ row_of c.args.rows.now c.loop-row.row-index = c.deref-in-loop-row.ensures.value ∙ row-at rows n c.row-item.result c.loop-row-test.true c.row-item.is in
-    let nodes = c.deref-in-Ok-evaluate_level.result.now in
-    let row : c.deref-in-Ok-evaluate_level.result.now ≡ row_of c.args.rows.now c.loop-row.row-index = c.deref-in-Ok-evaluate_level.ensures.value ∙ row-at rows n c.row-item.result c.loop-row-test.true c.row-item.is in
-    let results : AreResults g.I.Pass.Codes.home (g.I.Pass.Codes.lists c.evaluate_level.new.pass) c.args.formula.now c.args.bound c.deref-in-Ok-evaluate_level.result.now c.deref-in-Ok-evaluate_level-2.result.now =
-    subst (λ (rs : List Outcome). AreResults g.I.Pass.Codes.home (g.I.Pass.Codes.lists c.evaluate_level.new.pass) c.args.formula.now c.args.bound c.deref-in-Ok-evaluate_level.result.now rs) (sym c.deref-in-Ok-evaluate_level-2.ensures.value)
-    (subst (λ (ns : List ℕ). AreResults g.I.Pass.Codes.home (g.I.Pass.Codes.lists c.evaluate_level.new.pass) c.args.formula.now c.args.bound ns c.in-Ok-evaluate_level.results.items) (first ∙ sym row) after.ok) in
-    let longer : AreOutcomes g.I.Pass.Codes.home (g.I.Pass.Codes.lists c.evaluate_level.new.pass) c.args.formula.now c.args.bound c.loop-row.outcomes.items = outcomes-longer c.longer_lists_know.ensures home old new after.extends f c.args.bound c.loop-row.outcomes.items before.outcomes in
-    let written = c.write_results.ensures in
-    let more = total-more rows n c.deref-in-loop-row.result.now c.loop-row-test.true first in
+    let after = c.in-Ok-share.ensures in
+    let row : c.deref-in-loop-row.result.now ≡ row_of c.args.rows.now c.loop-row.row-index = c.deref-in-loop-row.ensures.value ∙ row-at rows n c.row-item.result c.loop-row-test.true c.row-item.is in
+    let told = c.in-Ok-share.told.items in
+    let os = c.loop-row.outcomes.items in
+    let ps = c.write_results.new.outcomes.items in
+    let nodes : List ℕ = map (λ t. t.0) c.in-Ok-share.told.items in
+    let results : List Outcome = map (λ t. t.1) c.in-Ok-share.told.items in
+    let are : AreResults g.I.Pass.Codes.home (g.I.Pass.Codes.lists c.share.new.pass) c.args.formula.now c.args.bound (map (λ t. t.0) c.in-Ok-share.told.items) (map (λ t. t.1) c.in-Ok-share.told.items) = told-results home new f bound told after.ok.each in
+    let longer : AreOutcomes g.I.Pass.Codes.home (g.I.Pass.Codes.lists c.share.new.pass) c.args.formula.now c.args.bound c.loop-row.outcomes.items = outcomes-longer c.longer_lists_know.ensures home old new after.extends f bound os before.outcomes in
+    let written : AreWritten (map (λ t. t.0) c.in-Ok-share.told.items) (map (λ t. t.1) c.in-Ok-share.told.items) (length (map (λ (t : ℕ × Outcome). t.0) c.in-Ok-share.told.items)) c.loop-row.outcomes.items c.write_results.new.outcomes.items =
+    subst (λ (k : ℕ). AreWritten (map (λ t. t.0) c.in-Ok-share.told.items) (map (λ t. t.1) c.in-Ok-share.told.items) k c.loop-row.outcomes.items c.write_results.new.outcomes.items) (sym (length-map told (λ (t : ℕ × Outcome). t.0)))
+    (subst (λ (ts : List (ℕ × Outcome)). AreWritten (map (λ t. t.0) ts) (map (λ t. t.1) ts) (length ts) c.loop-row.outcomes.items c.write_results.new.outcomes.items) c.deref-in-Ok-share.ensures.value c.write_results.ensures) in
+    let same : (i : ℕ) → ContainsByRecursion i (map (λ (t : ℕ × Outcome). t.0) c.in-Ok-share.told.items) ↔ ContainsByRecursion i (row_of c.args.rows.now c.loop-row.row-index) =
+    subst (λ (xs : List ℕ). (i : ℕ) → ContainsByRecursion i (map (λ (t : ℕ × Outcome). t.0) c.in-Ok-share.told.items) ↔ ContainsByRecursion i xs) row (told-nodes c.deref-in-loop-row.result.now told after.ok.once) in
+    let more = total-more rows n c.deref-in-loop-row.result.now c.loop-row-test.true row in
     let most : total (take c.loop-row.row-index c.args.rows.now) + length c.deref-in-loop-row.result.now ≤ total (take (c.loop-row.row-index + 1) c.args.rows.now) = omega (arith, more) in
+    let offered : g.I.Pass.Codes.offered c.share.new.pass ≤ g.I.Pass.Codes.offered c.loop-row.pass + length c.deref-in-loop-row.result.now * c.args.bound =
+    subst (λ (k : ℕ). g.I.Pass.Codes.offered c.share.new.pass ≤ g.I.Pass.Codes.offered c.loop-row.pass + k) (offers-each c.deref-in-loop-row.result.now c.args.bound) after.offers in
     record {
       kept = after.kept;
       extends = Extends-trans (g.I.Pass.Codes.lists c.args.pass.now) old new before.extends after.extends;
-      outcomes = level-outcomes home new f c.args.bound nodes c.deref-in-Ok-evaluate_level-2.result.now c.loop-row.outcomes.items c.write_results.new.outcomes.items longer results written;
-      settled = done-more rows n c.loop-row.outcomes.items c.write_results.new.outcomes.items nodes row
-          (level-settled home new f c.args.bound nodes c.deref-in-Ok-evaluate_level-2.result.now c.loop-row.outcomes.items c.write_results.new.outcomes.items longer results written)
-          (settled-level home new f c.args.bound nodes c.deref-in-Ok-evaluate_level-2.result.now c.loop-row.outcomes.items c.write_results.new.outcomes.items longer results written)
-          before.settled;
-      offers = offers-within (g.I.Pass.Codes.offered c.args.pass.now) (g.I.Pass.Codes.offered c.loop-row.pass) (g.I.Pass.Codes.offered c.evaluate_level.new.pass) (total (take n rows)) (length c.deref-in-loop-row.result.now) (total (take (n + 1) rows)) c.args.bound before.offers after.offers most;
+      outcomes = level-outcomes home new f bound nodes results os ps longer are written;
+      settled = done-more rows n os ps nodes same (level-settled home new f bound nodes results os ps longer are written) (settled-level home new f bound nodes results os ps longer are written) before.settled;
+      offers = offers-within (g.I.Pass.Codes.offered c.args.pass.now) (g.I.Pass.Codes.offered c.loop-row.pass) (g.I.Pass.Codes.offered c.share.new.pass) (total (take n rows)) (length c.deref-in-loop-row.result.now) (total (take (n + 1) rows)) bound before.offers offered most;
     }
 
 pub returns-clause-settled : goal.returns-clause-settled

@@ -1,8 +1,7 @@
-use Rattle.std.proofs.Common.{◌<◌, length}
-use Rattle.pt_eval.proofs.RunLaws.{written-more}
+use Rattle.std.proofs.Common.{ℕ, ◌<◌, length, map}
+use Rattle.pt_eval.proofs.ToldLaws.{told-written}
 use Rattle.pt_eval.proofs.evaluation.write_results.Goals as goal
 
-pub loop-k-preserved : goal.loop-k-preserved
-loop-k-preserved c =
-    let inside : c.loop-k.k < length c.args.nodes.now = c.loop-k-test.true in
-    written-more c.args.nodes.now c.args.results.now c.loop-k.k c.args.outcomes.now.items c.loop-k.outcomes.items (c.requires.nodes c.loop-k.k inside) c.loop-k.invariant
+pub loop-node-preserved : goal.loop-node-preserved
+loop-node-preserved c =
+    told-written c.args.told.now c.loop-node.node-index c.args.outcomes.now.items c.loop-node.outcomes.items c.loop-node-test.true c.requires c.loop-node.invariant

@@ -1,5 +1,5 @@
 use Rattle.std.proofs.Common.{◌≡◌, ◌∙◌, ap, sym, subst, arith, length, List, ℕ, Option, Some, slice_get}
-use Rattle.pt_store.specs.Shards.{Agree, JoinsLists}
+use Rattle.pt_shards.specs.Shards.{Agree, JoinsLists}
 use Rattle.pt_cells.specs.Places.{name_from}
 use Rattle.pt_cells.proofs.Agreeing.{JoinsLists-first, JoinsLists-second}
 use Rattle.pt_cells.proofs.shard.CellShard.join.Goals as goal
