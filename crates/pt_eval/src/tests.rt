@@ -7,6 +7,8 @@ use pt_handles::expand;
 use pt_store::{OneShard, SharedStore};
 use pt_tables::Table;
 use std::alloc::Global;
+use std::hint::spin_loop;
+use std::sync::atomic::{AtomicBool, Ordering};
 use std::test::Fail;
 use std::thread::Threads;
 
@@ -72,21 +74,23 @@ impl Solved {
     }
 }
 
-// The automata of the solutions of two roots, or the refusal.
-fn solve<R: Threads + Sync>(
+// The automata of the solutions of two roots, by so many workers, or the refusal.
+fn solve<G: Gate, R: Threads + Sync>(
     rt: &R,
     alloc: Global,
     formula: &Formula,
     roots: [NodeId; 2],
     bound: u32,
     limit: u32,
+    workers: u32,
+    gate: &G,
 ) -> Result<Result<Solved, EvalFault>, Fail> {
     let [a, b] = roots;
     if a >= formula.len() || b >= formula.len() || bound == 0 || bound > 65_536 {
         return Err("root or bound")?;
     }
-    if limit == 0 || limit > 1_000_000 {
-        return Err("limit")?;
+    if limit == 0 || limit > 1_000_000 || workers == 0 || workers > 16 {
+        return Err("limit or workers")?;
     }
     let (store, mut pass) = SharedStore::new(alloc, 1, limit, OneShard)?;
     match evaluate(
@@ -97,8 +101,8 @@ fn solve<R: Threads + Sync>(
         formula,
         &[a, b],
         bound,
-        1,
-        &Open,
+        workers,
+        gate,
     ) {
         Ok(handles) => {
             let (first, first_start) = expand(alloc, &pass, handles[0])?;
@@ -148,10 +152,12 @@ fn solutions_of_worked_formulas(rt: HostRuntime) -> Result<(), Fail> {
     let five = formula.atom(alloc, Kind::Eq, &[(0, 1)], 5, HERE)?;
     let above_four = no_coins(&mut formula, alloc, -5)?;
     let natural = no_coins(&mut formula, alloc, 0)?;
-    let solved = solve(&rt, alloc, &formula, [five, above_four], 16, 1000)??;
-    assert!(rt; solved.first_are(&[5]) && solved.second_are(&[7]));
-    let solved = solve(&rt, alloc, &formula, [natural, 0], 16_384, 1000)??;
-    assert!(rt; solved.first_are(&[1, 2, 4, 7]) && solved.second_has(&[]));
+    for workers in [1u32, 2, 16] {
+        let solved = solve(&rt, alloc, &formula, [five, above_four], 16, 1000, workers, &Open)??;
+        assert!(rt; solved.first_are(&[5]) && solved.second_are(&[7]));
+        let solved = solve(&rt, alloc, &formula, [natural, 0], 16_384, 1000, workers, &Open)??;
+        assert!(rt; solved.first_are(&[1, 2, 4, 7]) && solved.second_has(&[]));
+    }
     Ok(())
 }
 
@@ -165,15 +171,70 @@ fn refusals_of_worked_formulas(rt: HostRuntime) -> Result<(), Fail> {
     let more = formula.atom(alloc, Kind::Eq, &[(0, 1)], 2000, HERE)?;
     let either = join(&mut formula, alloc, Op::Or, more, none)?;
     let refused = Some(EvalFault::States { node: 2 });
-    assert!(rt; solve(&rt, alloc, &formula, [either, none], 11, 1000)?.err() == refused);
-    assert!(rt; solve(&rt, alloc, &formula, [none, none], 11, 1000)?.err() == refused);
     let later = Some(EvalFault::States { node: 4 });
-    assert!(rt; solve(&rt, alloc, &formula, [0, more], 12, 1000)?.err() == later);
     let full = Some(EvalFault::Full { shard: 0, count: 1 });
-    assert!(rt; solve(&rt, alloc, &formula, [thousand, 0], 12, 1)?.err() == full);
-    let solved = solve(&rt, alloc, &formula, [none, thousand], 12, 1000)??;
+    for (roots, bound, limit, fault) in [
+        ([either, none], 11, 1000, refused),
+        ([none, none], 11, 1000, refused),
+        ([0, more], 12, 1000, later),
+        ([thousand, 0], 12, 1, full),
+        ([thousand, more], 12, 1, full),
+    ] {
+        for workers in [1u32, 2, 16] {
+            let ended = solve(&rt, alloc, &formula, roots, bound, limit, workers, &Open)?;
+            assert!(rt; ended.err() == fault, "by {workers}");
+        }
+    }
+    let solved = solve(&rt, alloc, &formula, [none, thousand], 12, 1000, 2, &Open)??;
     assert!(rt; solved.first_are(&[]) && !solved.first_has(&[1000]));
     assert!(rt; solved.second_are(&[]) && solved.second_has(&[1000]));
+    Ok(())
+}
+
+/// Holds the work at one node until that at another has started, for a while.
+#[derive(Drop)]
+struct Meets {
+    first: NodeId,
+    second: NodeId,
+    started: AtomicBool,
+    released: AtomicBool,
+}
+
+impl Gate for Meets {
+    fn start(&self, node: NodeId) {
+        if node == self.second {
+            self.started.store(true, Ordering::SeqCst);
+        }
+        if node == self.first {
+            for _ in 0..1_000_000_000u32 {
+                if self.started.load(Ordering::SeqCst) {
+                    self.released.store(true, Ordering::SeqCst);
+                    break;
+                }
+                spin_loop();
+            }
+        }
+    }
+
+    fn done(&self, _node: NodeId) {}
+}
+
+#[test]
+fn one_of_two_atoms_waits_for_the_other(rt: HostRuntime) -> Result<(), Fail> {
+    let alloc = rt.alloc();
+    let mut formula = Formula::new(alloc)?;
+    let five = formula.atom(alloc, Kind::Eq, &[(0, 1)], 5, HERE)?;
+    let most = formula.atom(alloc, Kind::Le, &[(0, 1)], 7, HERE)?;
+    let both = join(&mut formula, alloc, Op::And, five, most)?;
+    let gate = Meets {
+        first: five,
+        second: most,
+        started: AtomicBool::new(false),
+        released: AtomicBool::new(false),
+    };
+    let solved = solve(&rt, alloc, &formula, [both, most], 16, 1000, 2, &gate)??;
+    assert!(rt; solved.first_are(&[5]) && solved.second_has(&[7]) && !solved.second_has(&[8]));
+    assert!(rt; gate.released.load(Ordering::SeqCst));
     Ok(())
 }
 
@@ -295,7 +356,7 @@ fn made_node(formula: &mut Formula, alloc: Global, choice: u64) -> Result<NodeId
 }
 
 // The answers for all nodes at all vectors, node by node.
-pub(crate) fn truths_of(alloc: Global, formula: &Formula) -> Result<Vec<bool>, Fail> {
+fn truths_of(alloc: Global, formula: &Formula) -> Result<Vec<bool>, Fail> {
     let mut truths = Vec::new(alloc);
     for id in 0..formula.len() {
         for cell in 0..CELLS {
@@ -307,7 +368,7 @@ pub(crate) fn truths_of(alloc: Global, formula: &Formula) -> Result<Vec<bool>, F
 }
 
 // Whether the set of the automaton has just the vectors at which the node holds.
-pub(crate) fn agrees(
+fn agrees(
     alloc: Global,
     formula: &Formula,
     truths: &[bool],
@@ -331,7 +392,7 @@ pub(crate) fn agrees(
 }
 
 // A made-up formula, with its last two nodes.
-pub(crate) fn made_up(alloc: Global, seed: u64) -> Result<(Formula, NodeId, NodeId), Fail> {
+fn made_up(alloc: Global, seed: u64) -> Result<(Formula, NodeId, NodeId), Fail> {
     let mut formula = Formula::new(alloc)?;
     let mut state = seed;
     let mut last = 0;
@@ -351,10 +412,16 @@ pub(crate) fn made_up(alloc: Global, seed: u64) -> Result<(Formula, NodeId, Node
 }
 
 // Whether the last two nodes of a made-up formula have the solutions that they should have.
-fn made_up_agrees<R: Threads + Sync>(rt: &R, alloc: Global, seed: u64) -> Result<bool, Fail> {
+fn made_up_agrees<R: Threads + Sync>(
+    rt: &R,
+    alloc: Global,
+    seed: u64,
+    workers: u32,
+) -> Result<bool, Fail> {
     let (formula, last, other) = made_up(alloc, seed)?;
     let truths = truths_of(alloc, &formula)?;
-    let solved = solve(rt, alloc, &formula, [last, other], 65_536, 1_000_000)??;
+    let roots = [last, other];
+    let solved = solve(rt, alloc, &formula, roots, 65_536, 1_000_000, workers, &Open)??;
     let first = agrees(
         alloc,
         &formula,
@@ -378,7 +445,8 @@ fn made_up_agrees<R: Threads + Sync>(rt: &R, alloc: Global, seed: u64) -> Result
 fn made_up_formulas_have_their_solutions(rt: HostRuntime) -> Result<(), Fail> {
     let alloc = rt.alloc();
     for seed in 0..40u64 {
-        assert!(rt; made_up_agrees(&rt, alloc, seed)?);
+        let workers = seed as u32 % 4 + 1;
+        assert!(rt; made_up_agrees(&rt, alloc, seed, workers)?);
     }
     Ok(())
 }

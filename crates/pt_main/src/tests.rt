@@ -11,9 +11,11 @@ use std::thread::Threads;
 mod bool_definitions;
 mod bool_quantifiers;
 mod bools;
+mod counting;
 mod drills;
 mod laws;
 mod sets;
+mod workers;
 
 /// The words of a line, if it is not empty.
 fn words_of(alloc: Global, line: &str) -> Result<Vec<String>, Fail> {
