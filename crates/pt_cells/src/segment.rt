@@ -10,7 +10,7 @@ use std::marker::Model;
 
 /// A segment of N cells, each set once. Contracts see the names of its cells.
 #[derive(Drop)]
-pub struct Segment<const N: usize> {
+pub(crate) struct Segment<const N: usize> {
     cells: Vec<OnceBox<HashedCode>>,
 }
 
@@ -27,7 +27,7 @@ impl<const N: usize> Model for Segment<N> {
 
 impl<const N: usize> Segment<N> {
     /// A segment of N cells, which are empty.
-    pub fn new(alloc: Global) -> Result<Segment<N>, NoMemory>
+    pub(crate) fn new(alloc: Global) -> Result<Segment<N>, NoMemory>
         ensures { IfOk result (λ s. length s ≡ N) }
     {
         let mut cells = Vec::with_capacity(alloc, N)?;
@@ -38,7 +38,7 @@ impl<const N: usize> Segment<N> {
     }
 
     /// The cell at a position.
-    pub fn cell(&self, position: usize) -> &OnceBox<HashedCode>
+    pub(crate) fn cell(&self, position: usize) -> &OnceBox<HashedCode>
         requires { position < N }
         ensures { slice_get self.now position ≡ Some (cell_name result.now) }
     {

@@ -12,7 +12,7 @@ use std::marker::Model;
 
 /// The segments of a directory, each in a field, since the number of its cells stands in its type.
 #[derive(Drop)]
-pub struct SegmentFields {
+pub(crate) struct SegmentFields {
     s0: Slot<1024>,
     s1: Slot<2048>,
     s2: Slot<4096>,
@@ -35,7 +35,7 @@ pub struct SegmentFields {
 
 /// What was seen of each segment.
 #[derive(Drop)]
-pub struct NoteFields {
+pub(crate) struct NoteFields {
     s0: SlotNote<1024>,
     s1: SlotNote<2048>,
     s2: SlotNote<4096>,
@@ -54,6 +54,15 @@ pub struct NoteFields {
     s15: SlotNote<33554432>,
     s16: SlotNote<67108864>,
     s17: SlotNote<134217728>,
+}
+
+// Writes for all 18 levels what a macro writes for one: passes it each level, as a pattern, with its field.
+macro_rules! each_level {
+    ($form:ident) => {
+        $form!(
+            0 s0, 1 s1, 2 s2, 3 s3, 4 s4, 5 s5, 6 s6, 7 s7, 8 s8, 9 s9, 10 s10, 11 s11, 12 s12, 13 s13, 14 s14, 15 s15, 16 s16, _ s17
+        )
+    };
 }
 
 // The segment of a position, and the offset of its cell there.
@@ -79,52 +88,20 @@ fn size_of(level: u32) -> usize
 impl SegmentFields {
     // Segments that are not made.
     fn new(alloc: Global) -> SegmentFields {
-        SegmentFields {
-            s0: Slot::new(alloc),
-            s1: Slot::new(alloc),
-            s2: Slot::new(alloc),
-            s3: Slot::new(alloc),
-            s4: Slot::new(alloc),
-            s5: Slot::new(alloc),
-            s6: Slot::new(alloc),
-            s7: Slot::new(alloc),
-            s8: Slot::new(alloc),
-            s9: Slot::new(alloc),
-            s10: Slot::new(alloc),
-            s11: Slot::new(alloc),
-            s12: Slot::new(alloc),
-            s13: Slot::new(alloc),
-            s14: Slot::new(alloc),
-            s15: Slot::new(alloc),
-            s16: Slot::new(alloc),
-            s17: Slot::new(alloc),
+        macro_rules! fields {
+            ($($level:tt $field:ident),*) => { SegmentFields { $($field: Slot::new(alloc)),* } };
         }
+        each_level!(fields)
     }
 
     // Notes that nothing was seen.
     fn notes(&self) -> NoteFields
         ensures { AreNotesOf (seen_of result) (names_of self.now) }
     {
-        NoteFields {
-            s0: self.s0.note(),
-            s1: self.s1.note(),
-            s2: self.s2.note(),
-            s3: self.s3.note(),
-            s4: self.s4.note(),
-            s5: self.s5.note(),
-            s6: self.s6.note(),
-            s7: self.s7.note(),
-            s8: self.s8.note(),
-            s9: self.s9.note(),
-            s10: self.s10.note(),
-            s11: self.s11.note(),
-            s12: self.s12.note(),
-            s13: self.s13.note(),
-            s14: self.s14.note(),
-            s15: self.s15.note(),
-            s16: self.s16.note(),
-            s17: self.s17.note(),
+        macro_rules! fields {
+            ($($level:tt $field:ident),*) => { NoteFields { $($field: self.$field.note()),* } };
         }
+        each_level!(fields)
     }
 
     // The cell at an offset of a segment, which is made where there is none.
@@ -142,26 +119,14 @@ impl SegmentFields {
         ensures kept { Keeps (seen_of notes.old) (seen_of notes.new) }
         ensures cell { IfOk result (λ c. known_name (known_in (seen_of notes.new) level) offset ≡ Some (cell_name c.now)) }
     {
-        match level {
-            0 => self.s0.cell(alloc, &mut notes.s0, offset),
-            1 => self.s1.cell(alloc, &mut notes.s1, offset),
-            2 => self.s2.cell(alloc, &mut notes.s2, offset),
-            3 => self.s3.cell(alloc, &mut notes.s3, offset),
-            4 => self.s4.cell(alloc, &mut notes.s4, offset),
-            5 => self.s5.cell(alloc, &mut notes.s5, offset),
-            6 => self.s6.cell(alloc, &mut notes.s6, offset),
-            7 => self.s7.cell(alloc, &mut notes.s7, offset),
-            8 => self.s8.cell(alloc, &mut notes.s8, offset),
-            9 => self.s9.cell(alloc, &mut notes.s9, offset),
-            10 => self.s10.cell(alloc, &mut notes.s10, offset),
-            11 => self.s11.cell(alloc, &mut notes.s11, offset),
-            12 => self.s12.cell(alloc, &mut notes.s12, offset),
-            13 => self.s13.cell(alloc, &mut notes.s13, offset),
-            14 => self.s14.cell(alloc, &mut notes.s14, offset),
-            15 => self.s15.cell(alloc, &mut notes.s15, offset),
-            16 => self.s16.cell(alloc, &mut notes.s16, offset),
-            _ => self.s17.cell(alloc, &mut notes.s17, offset),
+        macro_rules! arms {
+            ($($level:tt $field:ident),*) => {
+                match level {
+                    $($level => self.$field.cell(alloc, &mut notes.$field, offset),)*
+                }
+            };
         }
+        each_level!(arms)
     }
 
     // The cell at a position, whose segment is made where there is none.
@@ -188,24 +153,10 @@ impl SegmentFields {
         ensures same { (one.new ≡ one.old) × (other.new ≡ other.old) }
         ensures agree { (p m n : ℕ) → name_from 1024 (seen_of one.old) p ≡ Some m → name_from 1024 (seen_of other.old) p ≡ Some n → m ≡ n }
     {
-        one.s0.compare(&mut other.s0);
-        one.s1.compare(&mut other.s1);
-        one.s2.compare(&mut other.s2);
-        one.s3.compare(&mut other.s3);
-        one.s4.compare(&mut other.s4);
-        one.s5.compare(&mut other.s5);
-        one.s6.compare(&mut other.s6);
-        one.s7.compare(&mut other.s7);
-        one.s8.compare(&mut other.s8);
-        one.s9.compare(&mut other.s9);
-        one.s10.compare(&mut other.s10);
-        one.s11.compare(&mut other.s11);
-        one.s12.compare(&mut other.s12);
-        one.s13.compare(&mut other.s13);
-        one.s14.compare(&mut other.s14);
-        one.s15.compare(&mut other.s15);
-        one.s16.compare(&mut other.s16);
-        one.s17.compare(&mut other.s17);
+        macro_rules! steps {
+            ($($level:tt $field:ident),*) => { $(one.$field.compare(&mut other.$field);)* };
+        }
+        each_level!(steps);
     }
 }
 
@@ -215,33 +166,17 @@ impl NoteFields {
         ensures same { self.new ≡ self.old }
         ensures result { result ≡ self.old }
     {
-        NoteFields {
-            s0: self.s0.again(),
-            s1: self.s1.again(),
-            s2: self.s2.again(),
-            s3: self.s3.again(),
-            s4: self.s4.again(),
-            s5: self.s5.again(),
-            s6: self.s6.again(),
-            s7: self.s7.again(),
-            s8: self.s8.again(),
-            s9: self.s9.again(),
-            s10: self.s10.again(),
-            s11: self.s11.again(),
-            s12: self.s12.again(),
-            s13: self.s13.again(),
-            s14: self.s14.again(),
-            s15: self.s15.again(),
-            s16: self.s16.again(),
-            s17: self.s17.again(),
+        macro_rules! fields {
+            ($($level:tt $field:ident),*) => { NoteFields { $($field: self.$field.again()),* } };
         }
+        each_level!(fields)
     }
 }
 
 /// The directory of a shard: 18 segments, the first of 1,024 cells and each next twice as long, 268,434,432 cells in all.
 /// Contracts see the names of the segments.
 #[derive(Drop)]
-pub struct Segments {
+pub(crate) struct Segments {
     fields: SegmentFields,
 }
 
@@ -256,7 +191,7 @@ impl Model for Segments {
 
 /// What was seen of the segments. Contracts see for each its name, and, where it was seen, the names of its cells.
 #[derive(Drop)]
-pub struct SegmentsNotes {
+pub(crate) struct SegmentsNotes {
     fields: NoteFields,
 }
 

@@ -12,7 +12,7 @@ use std::marker::Model;
 
 /// A segment of N cells that is made when it is first reached. Contracts see its name.
 #[derive(Drop)]
-pub struct Slot<const N: usize> {
+pub(crate) struct Slot<const N: usize> {
     segment: OnceBox<Segment<N>>,
 }
 
@@ -27,7 +27,7 @@ impl<const N: usize> Model for Slot<N> {
 
 /// What was seen of a segment. Contracts see the segment's name, and, where it was seen, the names of its cells.
 #[derive(Drop)]
-pub struct SlotNote<const N: usize> {
+pub(crate) struct SlotNote<const N: usize> {
     note: Note<Segment<N>>,
 }
 
@@ -41,14 +41,14 @@ impl<const N: usize> Model for SlotNote<N> {
 
 impl<const N: usize> Slot<N> {
     /// A segment that is not made.
-    pub fn new(alloc: Global) -> Slot<N> {
+    pub(crate) fn new(alloc: Global) -> Slot<N> {
         Slot {
             segment: OnceBox::new(alloc),
         }
     }
 
     /// A note that nothing was seen.
-    pub fn note(&self) -> SlotNote<N>
+    pub(crate) fn note(&self) -> SlotNote<N>
         ensures { result ≡ (self.now, None) }
     {
         SlotNote {
@@ -57,7 +57,7 @@ impl<const N: usize> Slot<N> {
     }
 
     /// The cell at an offset of the segment, which is made where there is none.
-    pub fn cell<'a>(
+    pub(crate) fn cell<'a>(
         &'a self,
         alloc: Global,
         note: &mut SlotNote<N>,
@@ -75,7 +75,7 @@ impl<const N: usize> Slot<N> {
 
 impl<const N: usize> SlotNote<N> {
     /// Another note of the same.
-    pub fn again(&mut self) -> SlotNote<N>
+    pub(crate) fn again(&mut self) -> SlotNote<N>
         ensures same { self.new ≡ self.old }
         ensures result { result ≡ self.old }
     {
@@ -85,7 +85,7 @@ impl<const N: usize> SlotNote<N> {
     }
 
     /// Two notes of one segment that both saw it know the same cells.
-    pub fn compare(&mut self, other: &mut SlotNote<N>)
+    pub(crate) fn compare(&mut self, other: &mut SlotNote<N>)
         requires { other.old.0 ≡ self.old.0 }
         ensures same { (self.new ≡ self.old) × (other.new ≡ other.old) }
         ensures same_cells { (x y : List ℕ) → self.old.1 ≡ Some x → other.old.1 ≡ Some y → x ≡ y }

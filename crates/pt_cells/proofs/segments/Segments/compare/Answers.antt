@@ -1,5 +1,5 @@
 use Rattle.std.proofs.Common.{◌≡◌, ◌∙◌, ℕ, List, Option, Some, ap, sym, subst}
-use Rattle.pt_cells.specs.Places.{names_of, seen_of, AreNotesOf, name_from}
+use Rattle.pt_cells.specs.Places.{seen_of, AreNotesOf, name_from}
 use Rattle.pt_cells.proofs.segments.Segments.compare.Goals as goal
 
 pub compare-requires-clause-one : goal.compare-requires-clause-one
