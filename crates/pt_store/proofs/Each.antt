@@ -65,3 +65,8 @@ lists-grow before passes at new old longer within grows =
     let in_lists : at < length lists = omega (arith, length-map passes (λ (p : Seen). p.codes)) in
     let begins : Begins (list_of lists at) new.codes = rw (list_of-pass passes at old within) grows in
     subst (Extends before) (sym (map-set (λ (p : Seen). p.codes) passes at new)) (Extends-trans before lists (set lists at new.codes) longer (Extends-set lists at new.codes in_lists begins))
+
+-- the list of a pass that was changed
+pub list_of-set : (passes : List Seen) (at : ℕ) (new : Seen) → at < length passes → list_of (lists_of (set passes at new)) at ≡ new.codes
+list_of-set passes at new within =
+    list_of-pass (set passes at new) at new (omega (arith, length-set passes at new, within)) ∙ ap (λ (p : Seen). p.codes) (get_or-set_same passes at new new within)

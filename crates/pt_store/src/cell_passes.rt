@@ -9,7 +9,7 @@ ghost use Rattle.pt_store.specs.Shared.{AtEach, lists_of, place_at};
 use crate::fault::NoMemory;
 use pt_cells::{CellFault, CellPass, CellShard};
 use pt_code::{Code, Place};
-use pt_shards::{HashedCode, MAX_CODES};
+use pt_shards::HashedCode;
 use std::alloc::Global;
 use std::sync::Arc;
 
@@ -46,8 +46,7 @@ pub(crate) fn join_all(shards: &[CellShard], passes: &mut Vec<CellPass>, others:
 /// How many codes the list of a shard has.
 pub(crate) fn count_in(passes: &[CellPass], shard: u32) -> u32
     requires { shard < length passes.now }
-    ensures value { result ≡ length (list_of (lists_of passes.now) shard) }
-    ensures bound { result ≤ MAX_CODES }
+    ensures { result ≡ length (list_of (lists_of passes.now) shard) }
 {
     passes[shard as usize].len()
 }

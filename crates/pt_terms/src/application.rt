@@ -21,7 +21,7 @@ fn residue_of_negative(constant: i64, modulus: u64) -> i128
 }
 
 impl Elaborator {
-    ghost use Rattle.std.specs.Prelude.{◌≡◌, ◌<◌, ◌^◌, ◌∷◌, length, map, IfOk, All};
+    ghost use Rattle.std.specs.Prelude.{◌≡◌, ◌<◌, ◌^◌, ◌∷◌, List, length, map, IfOk, All};
     ghost use Rattle.pt_formula.specs.Formulas.{op_node};
     ghost use Rattle.pt_terms.specs.Theory.{Argument, apply, divides, chosen, relation, distinct, as_truth, as_form};
     ghost use Rattle.pt_grammar.specs.declared.words.Operator.TheVariants as symbol;
@@ -159,8 +159,8 @@ impl Elaborator {
     {
         match arguments {
             [] | [_] => Err(refused(ReadKind::Sort, at)),
-            [a, rest @ ..] => {
-                let n = self.distinct(alloc, at, a, rest, arguments)?;
+            [a, ..] => {
+                let n = self.distinct(alloc, at, a, arguments)?;
                 Ok(Meaning::Bool(n))
             }
         }
@@ -171,16 +171,15 @@ impl Elaborator {
         alloc: Global,
         at: Position,
         first: &Argument,
-        rest: &[Argument],
         all: &[Argument],
     ) -> Result<u32, ReadRefusal>
+        ghost rest: { List Argument }
         requires all { All (λ (a : Argument). IsMeaningIn self.old a.1) all.now }
-        requires parts { all.now ≡ first.now ∷ rest.now }
-        ensures gives { Gives (λ i. i) result self.old self.new (distinct at first.now.1 rest.now) }
+        requires parts { all.now ≡ first.now ∷ rest }
+        ensures gives { Gives (λ i. i) result self.old self.new (distinct at first.now.1 rest) }
         ensures range { IfOk result (λ i. i < length self.new.formula) }
         ensures grows { Grows self.old self.new }
     {
-        let _ = rest;
         match &first.1 {
             Meaning::Bool(_) => {
                 let nodes = self.nodes_of(alloc, all)?;

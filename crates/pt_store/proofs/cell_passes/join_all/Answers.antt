@@ -8,6 +8,23 @@ use Rattle.pt_store.proofs.Each.{AtEach-set, list_of-pass}
 use Rattle.pt_store.proofs.Uniting.{JoinedFrom, JoinedFrom-next, last-is}
 use Rattle.pt_store.proofs.cell_passes.join_all.Goals as goal
 
+pub join-requires-clause-first : goal.join-requires-clause-first
+join-requires-clause-first c =
+    let shards = c.args.shards.now in
+    let passes = c.loop-other.passes.items in
+    let at = c.len-shard.result in
+    let other = c.in-Some.other in
+    let left = c.pop.new.self.items in
+    let inv = c.loop-other.invariant in
+    let shard = c.index-shards-shard.result in
+    let pass = c.index_mut.result.now in
+    let whole : c.loop-other.others.items ≡ left ++ other ∷ [] = search rules in
+    let all : (left ++ other ∷ []) ++ inv.rest.0 ≡ c.args.others.now.items = ap (λ xs. xs ++ inv.rest.0) (sym whole) ∙ inv.rest.1 in
+    let is : at ≡ length left = search rules in
+    let in_shards : at < length shards = omega (arith, ap length all, length-append (left ++ other ∷ []) inv.rest.0, length-append left (other ∷ []), is, c.requires.second.count) in
+    subst (λ (p : Seen). IsOf shard p) (sym c.index_mut.ensures.value)
+    (subst (λ (s : Cells). IsOf s (get_or passes at pass)) (sym c.index-shards-shard.is) (inv.kept.each at shard pass in_shards))
+
 pub join-requires-clause-second : goal.join-requires-clause-second
 join-requires-clause-second c =
     let shards = c.args.shards.now in
