@@ -1,5 +1,5 @@
 -- Passes over all shards, which are changed one by one.
-use Rattle.std.proofs.Common.{◌≡◌, inl, inr, ℕ, ◌+◌, ◌<◌, ◌≤◌, List, [], ◌∷◌, ◌++◌, length, length-append, take, set, get_or, ap, sym, ◌∙◌, subst, arith, get_or-set_same, get_or-set_other}
+use Rattle.std.proofs.Common.{◌≡◌, inl, inr, ℕ, ◌<◌, List, [], ◌∷◌, ◌++◌, length, length-append, take, set, get_or, ap, sym, ◌∙◌, subst, arith, get_or-set_same, get_or-set_other}
 use Rattle.std.proofs.Math.ListN.{length-set, get_or-append}
 use Rattle.std.proofs.Math.Seq.{take-length, get_or-append_seam}
 use Rattle.std.proofs.lemmas.Bool.{cases_lt, cases_eq}

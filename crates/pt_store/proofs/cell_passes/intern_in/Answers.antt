@@ -1,4 +1,4 @@
-use Rattle.std.proofs.Common.{◌≡◌, ◌∙◌, ℕ, ◌<◌, ◌+◌, List, [], IfOk, IfErr, IfNone, None, Some, Option, length, position, sym, ap, arith, subst, set, get_or, get_or-set_other}
+use Rattle.std.proofs.Common.{◌≡◌, ◌∙◌, ℕ, ◌<◌, ◌+◌, List, [], IfOk, IfErr, IfNone, None, Some, Option, length, position, sym, ap, arith, subst, get_or, get_or-set_other}
 use Rattle.std.proofs.lemmas.List.{get_or_default, map-set}
 use Rattle.pt_sets.specs.Lists.{Lists, list_of, code_eq}
 use Rattle.pt_sets.proofs.ListLaws.{Extends-refl}
