@@ -82,6 +82,8 @@ fn two_threads_intern_the_same_codes(rt: HostRuntime) -> Result<(), Fail> {
         assert!(rt; one_place && pass.count(0) == 3 && pass.offers() >= 3);
         let refused = store.intern(alloc, &mut pass, shared(alloc, &MINUS_ONE)?);
         assert!(rt; refused == Err(StoreFault::Full { shard: 0, count: 3 }));
+        let known = store.intern(alloc, &mut pass, shared(alloc, &ALL)?);
+        assert!(rt; known.ok() == pass.find(&*shared(alloc, &ALL)?));
     }
     Ok(())
 }
