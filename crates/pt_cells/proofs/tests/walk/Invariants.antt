@@ -1,5 +1,4 @@
-use Rattle.pt_cells.specs.Seeing.{IsOf}
 use Rattle.pt_cells.proofs.tests.walk.Given as goal
 
-abbrev pub invariant-loop-code : goal.invariant-loop-code
-invariant-loop-code l = IsOf l.shard l.pass
+abbrev pub invariant-loop-k : goal.invariant-loop-k
+invariant-loop-k g l = g.S.Walks.owns l.shard l.pass
