@@ -63,7 +63,7 @@ pub trait Codes {
 
 /// A store that interns codes through passes.
 pub trait Interner {
-    type Pass: Codes + Drop + Send;
+    type Pass: Codes + Drop;
 
     /// How many codes a shard may hold.
     ghost limit_of: { Self → ℕ };

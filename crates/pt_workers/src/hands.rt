@@ -76,6 +76,7 @@ pub(crate) fn work_each<I: Sharing, W: Work + Sync, R: Threads + Sync>(
     hands: Vec<Hand<I::Pass>>,
 ) -> Result<Vec<Report<I::Pass, W::Answer>>, AllocError>
 where
+    I::Pass: Send,
     W::Answer: Send,
     requires { All (IsReady (I.owns store.now) I.Pass.lists I.Pass.offered (W.may_begin work.now I.Pass.home)) hands.items }
     ensures count { IfOk result (λ v. vec_len v ≡ vec_len hands) }

@@ -58,6 +58,7 @@ pub fn share<I: Sharing, W: Work + Sync, R: Threads + Sync>(
     workers: u32,
 ) -> Result<Vec<(u32, W::Answer)>, StoreFault>
 where
+    I::Pass: Send,
     W::Answer: Send,
     requires owned { I.owns store.now pass.old }
     requires may_begin { All (W.may_begin work.now I.Pass.home (I.Pass.lists pass.old)) numbers.now }

@@ -77,10 +77,8 @@ returns-in-Err-intern-clause-full g c =
     let new = g.I.Pass.Codes.lists c.intern.new.pass in
     let same : arc_value c.in-Ok-clone.code ≡ c.in-Ok-least_code.coded.0 = c.in-Ok-clone.ensures.cases ∙ c.code.ensures in
     let coding : IsCoding p (arc_value c.in-Ok-clone.code) c.in-Ok-least_code.coded.1 = subst (λ (code : List ℕ). IsCoding p code c.in-Ok-least_code.coded.1) (sym same) c.in-Ok-least_code.ensures in
-    -- a pass keeps its laws in each thread, this one among them
-    let codes = g.met.I.Pass.Codes g.world.𝓛 g.world.𝓜 g.world.𝓡 ((λ s x. x), (λ x. x), (λ x. x), λ x. x) in
     let at_home : g.I.Pass.Codes.home (arc_value c.in-Ok-clone.code) (length new) < length new =
-    subst (λ (n : ℕ). g.I.Pass.Codes.home (arc_value c.in-Ok-clone.code) n < n) (sym c.intern.ensures.extends.shards) (codes.has_home c.args.pass.now (arc_value c.in-Ok-clone.code) (g.met.I.Interner.some c.args.store.now c.args.pass.now c.requires.owned)) in
+    subst (λ (n : ℕ). g.I.Pass.Codes.home (arc_value c.in-Ok-clone.code) n < n) (sym c.intern.ensures.extends.shards) (g.met.I.Pass.Codes.has_home c.args.pass.now (arc_value c.in-Ok-clone.code) (g.met.I.Interner.some c.args.store.now c.args.pass.now c.requires.owned)) in
     work-lacks work c.requires.placed c.if-not-marks-part.false c.number_part.ensures piece c.intern.ensures.extends coding (g.I.Interner.limit_of c.args.store.now) c.in-Err-intern.fault at_home c.in-Err-intern.ensures.err
 
 pub place_part-requires-clause-part : goal.place_part-requires-clause-part
