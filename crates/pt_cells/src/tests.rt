@@ -353,7 +353,7 @@ fn race_often<R: Threads + Sync, S: Walks>(
 
 #[test]
 fn threads_that_race_have_one_list(rt: HostRuntime) -> Result<(), Fail> {
-    assert!(rt; race_often::<HostRuntime, CellShard>(&rt, rt.alloc(), 300)?);
+    assert!(rt; race_often::<HostRuntime, CellShard>(&rt, rt.alloc(), 100)?);
     Ok(())
 }
 
