@@ -72,7 +72,7 @@ told-within nodes told P once all = go told (λ i found. all i ((told-nodes node
 -- the refusal of a level is one of all that are planned
 pub refuses-planned : (f : List (Node × Position)) (bound : ℕ) (home : Home) (limit : ℕ) (lists : Lists) (rows : List (Vec ℕ)) (n : ℕ) (nodes : List ℕ) (fault : StoreFault) → nodes ≡ row_of rows n →
     RefusesOnly limit lists (Some_of nodes (λ i. IsCheap f bound i × LacksSolutions home limit lists f i)) fault → RefusesWhere (IsPlanned rows) f bound home limit lists fault
-refuses-planned f bound home limit lists rows n nodes (store.Full shard count) is (same, at, (i, (k, lt, there), cheap, lacks)) =
+refuses-planned f bound home limit lists rows n nodes (store.Full shard count) is (same, at, (i, (k, lt, there), (cheap, lacks))) =
     ((same, at), (i, (n, subst (λ (xs : List ℕ). ContainsByRecursion i xs) is (contains-from nodes k i lt there)), cheap, lacks))
 refuses-planned f bound home limit lists rows n nodes store.NoMemory is refused = tt
 

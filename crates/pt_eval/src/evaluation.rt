@@ -49,6 +49,8 @@ pub fn evaluate<I: Sharing, G: Gate, R: Threads + Sync>(
     workers: u32,
     gate: &G,
 ) -> Result<Vec<Handle>, EvalFault>
+where
+    I::Pass: Send,
     requires owned { I.owns store.now pass.old }
     requires roots { AllByRecursion (λ root. root < length formula.now) roots.now }
     requires some { 0 < bound }
@@ -92,6 +94,8 @@ fn evaluate_rows<I: Sharing, G: Gate, R: Threads + Sync>(
     gate: &G,
     rows: &[Vec<NodeId>],
 ) -> Result<Vec<Outcome>, StoreFault>
+where
+    I::Pass: Send,
     requires owned { I.owns store.now pass.old }
     requires ordered { AreOrdered formula.now rows.now }
     requires some { 0 < bound }

@@ -31,6 +31,8 @@ pub(crate) fn drill<K: Sink, G: Gate, I: Sharing, R: Threads + Sync>(
     store: &I,
     pass: &mut I::Pass,
 ) -> Status
+where
+    I::Pass: Send,
     requires range { AreInRange given }
     requires owned { I.owns store.now pass.old }
     ensures of_text { IsOfText result }

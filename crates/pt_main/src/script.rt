@@ -48,6 +48,8 @@ pub fn run<S: Source, K: Sink, G: Gate, I: Sharing, R: Threads + Sync>(
     store: &I,
     pass: &mut I::Pass,
 ) -> Status
+where
+    I::Pass: Send,
     requires { I.owns store.now pass.old }
     ensures usage { result ≡ Status.Usage → ¬ AreOptions (map string_bytes words.now) }
     ensures refuses { ¬ AreOptions (map string_bytes words.now) → (result ≡ Status.Usage) ⊎ (result ≡ Status.NoMemory) }
@@ -89,6 +91,8 @@ fn solve<S: Source, K: Sink, G: Gate, I: Sharing, R: Threads + Sync>(
     store: &I,
     pass: &mut I::Pass,
 ) -> Status
+where
+    I::Pass: Send,
     requires range { AreInRange given }
     requires owned { I.owns store.now pass.old }
     ensures of_words { result ≢ Status.Usage }
@@ -125,6 +129,8 @@ pub(crate) fn answer<K: Sink, G: Gate, I: Sharing, R: Threads + Sync>(
     store: &I,
     pass: &mut I::Pass,
 ) -> Status
+where
+    I::Pass: Send,
     requires size { length text.now ≤ 4194304 }
     requires range { AreInRange given }
     requires owned { I.owns store.now pass.old }
@@ -183,6 +189,8 @@ fn answer_command<K: Sink, G: Gate, I: Sharing, R: Threads + Sync>(
     store: &I,
     pass: &mut I::Pass,
 ) -> Option<Status>
+where
+    I::Pass: Send,
     requires fits { FitsKind command.kind session.old.scope }
     requires going { session.old.fault ≡ None }
     requires depth { session.old.scope.depth < 2 ^ 127 }

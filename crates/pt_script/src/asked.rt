@@ -32,6 +32,8 @@ pub(crate) fn evaluate_roots<I: Sharing, G: Gate, R: Threads + Sync>(
     workers: u32,
     gate: &G,
 ) -> Result<Vec<Handle>, SessionFault>
+where
+    I::Pass: Send,
     requires owned { I.owns store.now pass.old }
     requires roots { AllByRecursion (λ root. root < length scope.now.formula) roots.now }
     requires some { 0 < bound }
@@ -103,6 +105,8 @@ pub(crate) fn one_set<I: Sharing, G: Gate, R: Threads + Sync>(
     workers: u32,
     gate: &G,
 ) -> Result<Handle, SessionFault>
+where
+    I::Pass: Send,
     requires owned { I.owns store.now pass.old }
     requires fits { IsPredicate scope.now p.now }
     requires some { 0 < bound }
@@ -137,6 +141,8 @@ pub(crate) fn two_sets<I: Sharing, G: Gate, R: Threads + Sync>(
     workers: u32,
     gate: &G,
 ) -> Result<(Handle, Handle), SessionFault>
+where
+    I::Pass: Send,
     requires owned { I.owns store.now pass.old }
     requires first { IsPredicate scope.now p.now }
     requires second { IsPredicate scope.now q.now }

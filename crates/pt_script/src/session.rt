@@ -94,6 +94,8 @@ impl Session {
         workers: u32,
         gate: &G,
     ) -> Result<Reply, SessionFault>
+    where
+        I::Pass: Send,
         requires fits { FitsKind command.kind self.old.scope }
         requires depth { self.old.scope.depth < 2 ^ 127 }
         requires owned { I.owns store.now pass.old }
@@ -132,6 +134,8 @@ impl Session {
         workers: u32,
         gate: &G,
     ) -> Result<Vec<u8>, SessionFault>
+    where
+        I::Pass: Send,
         requires fits { FitsKind command.now.kind self.old.scope }
         requires depth { self.old.scope.depth < 2 ^ 127 }
         requires owned { I.owns store.now pass.old }
@@ -191,6 +195,8 @@ impl Session {
         workers: u32,
         gate: &G,
     ) -> Result<Vec<u8>, SessionFault>
+    where
+        I::Pass: Send,
         requires kind { command.now.kind ≡ kind.CheckSat }
         requires owned { I.owns store.now pass.old }
         requires some { 0 < bound }
@@ -237,6 +243,8 @@ impl Session {
         workers: u32,
         gate: &G,
     ) -> Result<Vec<u8>, SessionFault>
+    where
+        I::Pass: Send,
         requires fits { FitsKind command.now.kind self.now.scope }
         requires about { predicates command.now.kind ≡ p.now ∷ [] }
         requires owned { I.owns store.now pass.old }
@@ -271,6 +279,8 @@ impl Session {
         workers: u32,
         gate: &G,
     ) -> Result<Vec<u8>, SessionFault>
+    where
+        I::Pass: Send,
         requires fits { FitsKind command.now.kind self.now.scope }
         requires about { predicates command.now.kind ≡ p.now ∷ q.now ∷ [] }
         requires owned { I.owns store.now pass.old }
