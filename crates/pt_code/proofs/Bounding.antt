@@ -268,9 +268,6 @@ sweep-step p in_p connected highs g widest q bounds slice row own best in_q is_r
 pub successors-few : (p : Component) → IsComponent p → (q : ℕ) → length (successors p q) ≤ p.states
 successors-few p in_p q = order-short p.states (successors p q) (near_states (edges_from p q)) refl (successors-within p in_p q)
 
-soon-small : (x o run : ℕ) → x + o < run → run ≤ 65536 → o < 65536
-soon-small x o run soon few = omega arith
-
 -- an order that begins with states, and the best one
 module _ (p : Component) (in_p : IsComponent p) (connected : IsStronglyConnected p) (entry other : ℕ) (in_e : entry < p.states) (in_o : other < p.states)
     (states more best : List ℕ) (begins : states_in_order p entry ≡ states ++ more) (is_best : best ≡ states_in_order p other) where
@@ -283,19 +280,7 @@ module _ (p : Component) (in_p : IsComponent p) (connected : IsStronglyConnected
       let size = ap length begins ∙ length-append states more in
       omega (arith, long, size)
 
-  -- a bound that lies within the run decides
-  pub bound-decides : (highs : List Bool) → IsHighs p highs → (bounds : List Bound) → AreBounds p highs bounds → (run place : ℕ) → run ≤ p.states → place < length states →
-      place * (get_or bounds (get_or states place 0) nothing).weight + (get_or bounds (get_or states place 0) nothing).offset < run →
-      ((n : ℕ) → n < run → get_or highs (get_or best n 0) false ≡ false) →
-      IsVerdict (λ i. row_of p (get_or (states_in_order p entry) i 0)) (λ i. row_of p (get_or best i 0)) p.states Greater
-  bound-decides highs is_highs bounds bounded run place few in_place soon low =
-      let b = get_or bounds (get_or states place 0) nothing in
-      let small : b.offset < 65536 = soon-small (place * b.weight) b.offset run soon (omega (arith, few, in_p.few_states)) in
-      let (m, in_m, near, high) = bounded.each (get_or states place 0) small entry place in_e (omega (arith, begun-inside, in_place)) (begun-at place in_place) in
-      subst (λ (l : List ℕ). IsVerdict (λ i. row_of p (get_or (states_in_order p entry) i 0)) (λ i. row_of p (get_or l i 0)) p.states Greater) (sym is_best)
-      (high-decides p in_p connected highs is_highs entry other in_e in_o run m in_m (omega (arith, near, soon)) (λ n h. ap (λ (l : List ℕ). get_or highs (get_or l n 0) false) (sym is_best) ∙ low n h) high)
-
-  -- and so do two rows that differ
+  -- two rows that differ decide
   pub row-decides : (place : ℕ) (o : Ordering) → place < length states → ((i : ℕ) → i < place → row_of p (get_or states i 0) ≡ row_of p (get_or best i 0)) →
       o ≡ slice_cmp nat_cmp (row_of p (get_or states place 0)) (row_of p (get_or best place 0)) → o ≢ Equal →
       IsVerdict (λ i. row_of p (get_or (states_in_order p entry) i 0)) (λ i. row_of p (get_or best i 0)) p.states o

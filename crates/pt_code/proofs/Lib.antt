@@ -15,3 +15,4 @@ pub mod Answering
 pub mod Bestness
 pub mod Ring
 pub mod Bounding
+pub mod Limiting

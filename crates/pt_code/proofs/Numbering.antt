@@ -4,6 +4,7 @@ use Rattle.std.specs.Prelude.{◌==◌}
 use Rattle.std.specs.List.{list_any, position_or_len}
 use Rattle.std.proofs.lemmas.Bool.{cases_eq}
 use Rattle.std.proofs.lemmas.Bool.Decides.{nat_tests}
+use Rattle.std.proofs.lemmas.Grind.{get_or_default_zero}
 use Rattle.std.proofs.lemmas.List.{get_or_append_left}
 use Rattle.std.proofs.lemmas.List.Folds.{list_any_at}
 use Rattle.std.proofs.lemmas.List.Sums.{position_or_len_is}
@@ -103,3 +104,9 @@ numbered-none states places none = record {
   within = λ j h. absurd (omega (arith, ap length none));
   placed = λ j h. absurd (omega (arith, ap length none));
 }
+
+-- the state at a place of an order is one of those that have places
+pub state-at : (states places : List ℕ) (n q : ℕ) → ((j : ℕ) → j < length states → get_or states j 0 < length places) → n < length states → q ≡ get_or states n q → (q ≡ get_or states n 0) × (q < length places)
+state-at states places n q within inside is =
+    let at = is ∙ get_or_default_zero states n q inside in
+    (at, subst (λ (r : ℕ). r < length places) (sym at) (within n inside))

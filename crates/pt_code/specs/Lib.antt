@@ -1,6 +1,7 @@
 pub mod Component
 pub mod Coding
 pub mod Searching
+pub mod Limiting
 pub mod Parts
 pub mod Sides
 pub mod Best

@@ -7,11 +7,13 @@ ghost use Rattle.pt_sets.specs.Components.{IsComponent, IsStronglyConnected, cod
 ghost use Rattle.pt_code.specs.Component.{component};
 ghost use Rattle.pt_code.specs.Coding.{IsCoding, IsomorphicComponentsHaveOneCode, CodesReadBackAreTheirComponents, numbers_from};
 ghost use Rattle.pt_code.specs.Best.{IsBest};
+ghost use Rattle.pt_code.specs.Limiting.{AreLimits};
 ghost use Rattle.pt_code.specs.Parts.{Leads, outputs_part};
 ghost use Rattle.pt_code.specs.Shapes.{IsShape};
 
 use crate::code::Code;
 use crate::fault::NoMemory;
+use crate::limits::{run_to_use, set_limits};
 use crate::links::{Side, compare_links};
 use crate::near::search;
 use crate::order::Order;
@@ -58,18 +60,26 @@ impl Coded {
 }
 
 /// Makes an entry the best one.
-fn set_best(piece: &Piece, shape: &Shape, entry: u32, best: &mut Best)
+fn set_best(piece: &Piece, shape: &Shape, entry: u32, best: Best) -> Best
     requires component { IsComponent (component piece.now) }
     requires connected { IsStronglyConnected (component piece.now) }
     requires shape { IsShape (component piece.now) shape.now }
     requires entry { entry < piece.now.states }
-    requires room { vec_len best.old.order.places ≡ piece.now.states }
-    ensures entry { best.new.entry ≡ entry }
-    ensures best { IsBest (component piece.now) shape.now.highs.items best.new }
+    requires room { vec_len best.order.places ≡ piece.now.states }
+    requires limits { AreLimits shape.now.bounds.items best.run best.limits.items }
+    ensures entry { result.entry ≡ entry }
+    ensures best { IsBest (component piece.now) shape.now result }
 {
-    search(piece, &shape.near, entry, &mut best.order);
-    best.entry = entry;
-    best.run = run_of(&shape.highs, &best.order.states);
+    let order = search(piece, &shape.near, entry, best.order);
+    let run = run_to_use(run_of(&shape.highs, &order.states));
+    let mut limits = best.limits;
+    set_limits(&shape.bounds, best.run, run, &mut limits);
+    Best {
+        entry,
+        order,
+        run,
+        limits,
+    }
 }
 
 /// How the outputs in the order from an entry compare with those in the best order.
@@ -83,7 +93,7 @@ fn compare_states(
     requires component { IsComponent (component piece.now) }
     requires connected { IsStronglyConnected (component piece.now) }
     requires shape { IsShape (component piece.now) shape.now }
-    requires best { IsBest (component piece.now) shape.now.highs.items best.now }
+    requires best { IsBest (component piece.now) shape.now best.now }
     requires entry { entry < piece.now.states }
     requires room { vec_len order.places ≡ piece.now.states }
     ensures order { result.0 ≡ slice_cmp nat_cmp (outputs_part (component piece.now) (states_in_order (component piece.now) entry)) (outputs_part (component piece.now) (states_in_order (component piece.now) best.now.entry)) }
@@ -109,7 +119,7 @@ fn compare_entry(
     requires component { IsComponent (component piece.now) }
     requires connected { IsStronglyConnected (component piece.now) }
     requires shape { IsShape (component piece.now) shape.now }
-    requires best { IsBest (component piece.now) shape.now.highs.items best.now }
+    requires best { IsBest (component piece.now) shape.now best.now }
     requires entry { entry < piece.now.states }
     requires own_room { vec_len order.places ≡ piece.now.states }
     requires room { vec_len side.old.order.places ≡ piece.now.states }
@@ -128,20 +138,20 @@ fn compare_entry(
 }
 
 /// Makes an entry the best one where its code is less.
-fn improve(piece: &Piece, shape: &Shape, order: Ordering, entry: u32, best: &mut Best)
+fn improve(piece: &Piece, shape: &Shape, order: Ordering, entry: u32, best: Best) -> Best
     requires component { IsComponent (component piece.now) }
     requires connected { IsStronglyConnected (component piece.now) }
     requires shape { IsShape (component piece.now) shape.now }
     requires entry { entry < piece.now.states }
-    requires best { IsBest (component piece.now) shape.now.highs.items best.old }
-    requires order { order ≡ slice_cmp nat_cmp (code_from (component piece.now) entry) (code_from (component piece.now) best.old.entry) }
-    requires leads { Leads (component piece.now) entry best.old.entry }
-    ensures best { IsBest (component piece.now) shape.now.highs.items best.new }
-    ensures leads { Leads (component piece.now) (entry + 1) best.new.entry }
+    requires best { IsBest (component piece.now) shape.now best }
+    requires order { order ≡ slice_cmp nat_cmp (code_from (component piece.now) entry) (code_from (component piece.now) best.entry) }
+    requires leads { Leads (component piece.now) entry best.entry }
+    ensures best { IsBest (component piece.now) shape.now result }
+    ensures leads { Leads (component piece.now) (entry + 1) result.entry }
 {
     match order {
         Ordering::Less => set_best(piece, shape, entry, best),
-        _ => {}
+        _ => best,
     }
 }
 
@@ -154,12 +164,13 @@ fn best_of(alloc: Global, piece: &Piece) -> Result<Best, NoMemory>
     ensures places { IfOk result (λ best. best.order.places.items ≡ numbers_from (component piece.now) best.entry) }
 {
     let shape = shape_of(alloc, piece)?;
-    let mut best = Best {
+    let none = Best {
         entry: 0,
         order: Order::new(alloc, piece.states)?,
         run: 0,
+        limits: vec![in alloc; 0u32; piece.states as usize]?,
     };
-    set_best(piece, &shape, 0, &mut best);
+    let mut best = set_best(piece, &shape, 0, none);
     let mut order = Order::new(alloc, piece.states)?;
     let mut side = Side::new(alloc, piece.states)?;
     let mut other = Side::new(alloc, piece.states)?;
@@ -168,7 +179,7 @@ fn best_of(alloc: Global, piece: &Piece) -> Result<Best, NoMemory>
             alloc, piece, &shape, &best, entry, order, &mut side, &mut other,
         )?;
         order = back;
-        improve(piece, &shape, found, entry, &mut best);
+        best = improve(piece, &shape, found, entry, best);
     }
     Ok(best)
 }
@@ -180,7 +191,7 @@ fn best_of(alloc: Global, piece: &Piece) -> Result<Best, NoMemory>
 /// of outputs are compared first, in the order of the search and without writing them, and a state with a row that is not a
 /// least one decides where the best order has least rows, as soon as a bound on its place tells that it will come; where all
 /// rows are the same, edges are compared side by side in both searches. The code is written once. So the cost is near linear in the edges where states differ in what is near
-/// them; at worst it is states times edges. Memory: 4 bytes for each different near edge, about 50 for each state, and a set
+/// them; at worst it is states times edges. Memory: 4 bytes for each different near edge, about 54 for each state, and a set
 /// of the exits.
 pub fn least_code(alloc: Global, piece: &Piece) -> Result<Coded, NoMemory>
     requires component { IsComponent (component piece.now) }

@@ -5,6 +5,7 @@ mod bounds;
 mod code;
 mod fault;
 mod least;
+mod limits;
 mod links;
 mod near;
 mod order;

@@ -1,8 +1,9 @@
 // States in the order in which a search meets them.
-ghost use Rattle.std.specs.Prelude.{◌≡◌, ◌<◌, ◌≤◌, ◌==◌, [], true, false, vec_len, vec_capacity, All, IfOk, MatchOption};
+ghost use Rattle.std.specs.Prelude.{◌≡◌, ◌<◌, ◌≤◌, ◌⊎◌, ◌==◌, [], true, false, length, slice_index, vec_len, vec_capacity, All, IfOk, IsTrue, MatchOption};
 ghost use Rattle.std.specs.List.{list_any, position_or_len};
 ghost use Rattle.pt_sets.specs.Components.{StaysWithin, near_states};
 ghost use Rattle.pt_code.specs.Searching.{IsNumbered, visit_one, visit_all};
+ghost use Rattle.pt_code.specs.Limiting.{IsLate, IsSoon};
 
 use crate::fault::NoMemory;
 use pt_sets::Edge;
@@ -46,6 +47,23 @@ impl Order {
         None
     }
 
+    /// A state that is not there goes behind those that are. Its place.
+    fn add(&mut self, state: u32) -> u32
+        requires state { state < vec_len self.old.places }
+        requires few { vec_len self.old.places ≤ 65536 }
+        requires numbered { IsNumbered self.old.states.items self.old.places.items }
+        requires new { list_any (◌==◌ state) self.old.states.items ≡ false }
+        ensures states { self.new.states.items ≡ visit_one self.old.states.items state }
+        ensures place { result ≡ vec_len self.old.states }
+        ensures numbered { IsNumbered self.new.states.items self.new.places.items }
+        ensures room { vec_len self.new.places ≡ vec_len self.old.places }
+    {
+        let place = self.states.len() as u32;
+        self.states.push_reserved(state);
+        self.places[state as usize] = place;
+        place
+    }
+
     /// The place of a state, which goes behind those that are there unless it is one of them.
     pub(crate) fn number(&mut self, state: u32) -> u32
         requires state { state < vec_len self.old.places }
@@ -59,10 +77,28 @@ impl Order {
         if let Some(place) = self.place_of(state) {
             return place;
         }
-        let place = self.states.len() as u32;
-        self.states.push_reserved(state);
-        self.places[state as usize] = place;
-        place
+        self.add(state)
+    }
+
+    /// Meets a state, unless it is new and its place would be below the limit. Tells whether that is so.
+    fn meets_below(&mut self, state: u32, limit: u32) -> bool
+        requires state { state < vec_len self.old.places }
+        requires few { vec_len self.old.places ≤ 65536 }
+        requires numbered { IsNumbered self.old.states.items self.old.places.items }
+        ensures states { result ≡ false → self.new.states.items ≡ visit_one self.old.states.items state }
+        ensures late { result ≡ false → (list_any (◌==◌ state) self.old.states.items ≡ true) ⊎ (limit ≤ length self.old.states.items) }
+        ensures soon { IsTrue result → (list_any (◌==◌ state) self.old.states.items ≡ false) × (length self.old.states.items < limit) }
+        ensures numbered { IsNumbered self.new.states.items self.new.places.items }
+        ensures room { vec_len self.new.places ≡ vec_len self.old.places }
+    {
+        let None = self.place_of(state) else {
+            return false;
+        };
+        if self.states.len() < limit as usize {
+            return true;
+        }
+        self.add(state);
+        false
     }
 
     /// Begins anew with one state.
@@ -89,6 +125,27 @@ impl Order {
         for state in states {
             self.number(*state);
         }
+    }
+
+    /// Meets states until the place of a new one is below its limit, and tells whether one is.
+    pub(crate) fn visit_until(&mut self, states: &[u32], limits: &[u32]) -> bool
+        requires within { All (λ q. q < vec_len self.old.places) states.now }
+        requires limits { length limits.now ≡ vec_len self.old.places }
+        requires few { vec_len self.old.places ≤ 65536 }
+        requires numbered { IsNumbered self.old.states.items self.old.places.items }
+        requires late { IsLate limits.now self.old.states.items }
+        ensures soon { IsTrue result → IsSoon limits.now (visit_all self.old.states.items states.now) }
+        ensures states { result ≡ false → self.new.states.items ≡ visit_all self.old.states.items states.now }
+        ensures late { result ≡ false → IsLate limits.now self.new.states.items }
+        ensures numbered { IsNumbered self.new.states.items self.new.places.items }
+        ensures room { vec_len self.new.places ≡ vec_len self.old.places }
+    {
+        for state in states {
+            if self.meets_below(*state, limits[*state as usize]) {
+                return true;
+            }
+        }
+        false
     }
 
     /// Begins anew with the states that edges lead to.

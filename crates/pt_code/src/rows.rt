@@ -1,17 +1,16 @@
 // Rows of outputs that are compared in the order of a search.
-ghost use Rattle.std.specs.Prelude.{◌≡◌, ◌≢◌, ◌↔◌, ℕ, ◌+◌, ◌*◌, ◌<◌, ◌≤◌, ◌++◌, List, false, IsTrue, IfOk, All, length, vec_len, slice_index, slice_index_or};
+ghost use Rattle.std.specs.Prelude.{◌≡◌, ◌≢◌, ℕ, ◌<◌, ◌≤◌, ◌++◌, List, false, IsTrue, IfOk, All, length, vec_len, slice_index, slice_index_or};
 ghost use Rattle.std.specs.Ordering.{nat_cmp, is_gt};
 ghost use Rattle.std.specs.Cmp.Lexicographic.{slice_cmp};
 ghost use Rattle.pt_sets.specs.Components.{IsComponent, IsStronglyConnected, states_in_order};
-ghost use Rattle.pt_code.specs.Best.{IsBest};
-ghost use Rattle.pt_code.specs.Bounding.{nothing};
+ghost use Rattle.pt_code.specs.Best.{HasMetRun, IsBest};
 ghost use Rattle.pt_code.specs.Component.{component};
 ghost use Rattle.pt_code.specs.Parts.{IsHighs, IsVerdict, row_of, outputs_part};
+ghost use Rattle.pt_code.specs.Searching.{IsNear};
 ghost use Rattle.pt_code.specs.Shapes.{IsShape};
 
-use crate::bounds::Bound;
 use crate::fault::NoMemory;
-use crate::near::visit_next;
+use crate::near::{visit_next, visit_next_until};
 use crate::order::Order;
 use crate::piece::Piece;
 use crate::search::outputs_of;
@@ -93,12 +92,14 @@ pub(crate) fn is_flat(highs: &[bool]) -> bool
     true
 }
 
-/// The best entry so far: the states in the order from it, and how many of the first of them are not high.
+/// The best entry so far: the states in the order from it, the run, which is so many of the first of them, none of them
+/// high, and for each state a limit: a search that meets it at a place below that meets a high state within the run.
 #[derive(Drop)]
 pub(crate) struct Best {
     pub(crate) entry: u32,
     pub(crate) order: Order,
     pub(crate) run: usize,
+    pub(crate) limits: Vec<u32>,
 }
 
 /// How many states are not high before the first that is.
@@ -115,40 +116,24 @@ pub(crate) fn run_of(highs: &[bool], states: &[u32]) -> usize
     states.len()
 }
 
-/// How the row of a state compares with that of the state at a place of the best order, where both are least rows within
-/// the run, so that no outputs have to be read there.
+/// How the row of a state compares with that of the state at a place of the best order.
 fn compare_at(piece: &Piece, best: &Best, place: usize, state: u32) -> Ordering
     requires component { IsComponent (component piece.now) }
     requires within { All (λ q. q < piece.now.states) best.now.order.states.items }
     requires place { place < vec_len best.now.order.states }
     requires state { state < piece.now.states }
-    requires run { place < best.now.run → row_of (component piece.now) state ≡ row_of (component piece.now) (slice_index best.now.order.states.items place) }
     ensures { result ≡ slice_cmp nat_cmp (row_of (component piece.now) state) (row_of (component piece.now) (slice_index best.now.order.states.items place)) }
 {
-    if place < best.run {
-        return Ordering::Equal;
-    }
     compare_outputs(piece, state, best.order.states[place])
 }
 
-/// Whether a search that meets a state at a place meets a high state within the run.
-fn meets_high(bounds: &[Bound], run: usize, place: usize, state: u32) -> bool
-    requires state { state < length bounds.now }
-    requires place { place ≤ 65536 }
-    ensures { IsTrue result ↔ (place * (slice_index_or bounds.now state nothing).weight + (slice_index_or bounds.now state nothing).offset < run) }
-{
-    let bound = bounds[state as usize];
-    place * bound.weight as usize + (bound.offset as usize) < run
-}
-
 /// How the rows of states, with which the order from an entry begins, compare with those of the best order, where those
-/// before a place are the same. Greater as soon as a bound tells that a high state comes within the run; so a state that
-/// is met within the run, and for which no bound tells so, is not high itself.
-fn compare_from(piece: &Piece, shape: &Shape, best: &Best, states: &[u32], from: usize) -> Ordering
+/// before a place are the same.
+fn compare_from(piece: &Piece, best: &Best, states: &[u32], from: usize) -> Ordering
     requires component { IsComponent (component piece.now) }
     requires connected { IsStronglyConnected (component piece.now) }
-    requires shape { IsShape (component piece.now) shape.now }
-    requires best { IsBest (component piece.now) shape.now.highs.items best.now }
+    requires within { best.now.entry < piece.now.states }
+    requires best { best.now.order.states.items ≡ states_in_order (component piece.now) best.now.entry }
     requires states { All (λ q. q < piece.now.states) states.now }
     requires few { length states.now ≤ piece.now.states }
     requires from { from ≤ length states.now }
@@ -158,9 +143,6 @@ fn compare_from(piece: &Piece, shape: &Shape, best: &Best, states: &[u32], from:
         IsVerdict (λ i. row_of (component piece.now) (slice_index (states_in_order (component piece.now) entry) i)) (λ i. row_of (component piece.now) (slice_index best.now.order.states.items i)) piece.now.states result }
 {
     for place in from..states.len() {
-        if meets_high(&shape.bounds, best.run, place, states[place]) {
-            return Ordering::Greater;
-        }
         let order = compare_at(piece, best, place, states[place]);
         let Ordering::Equal = order else {
             return order;
@@ -169,9 +151,41 @@ fn compare_from(piece: &Piece, shape: &Shape, best: &Best, states: &[u32], from:
     Ordering::Equal
 }
 
+/// Goes on with a search that has met the states of the run, and compares the rows behind it.
+fn compare_behind_run(
+    piece: &Piece,
+    shape: &Shape,
+    best: &Best,
+    entry: u32,
+    start: usize,
+    order: Order,
+) -> (Ordering, Order)
+    requires component { IsComponent (component piece.now) }
+    requires connected { IsStronglyConnected (component piece.now) }
+    requires near { IsNear (component piece.now) shape.now.near.starts.items shape.now.near.targets.items }
+    requires best { IsBest (component piece.now) shape.now best.now }
+    requires entry { entry < piece.now.states }
+    requires met { HasMetRun (component piece.now) best.now entry start order.states.items order.places.items }
+    ensures order { result.0 ≡ slice_cmp nat_cmp (outputs_part (component piece.now) (states_in_order (component piece.now) entry)) (outputs_part (component piece.now) (states_in_order (component piece.now) best.now.entry)) }
+    ensures room { vec_len result.1.places ≡ vec_len order.places }
+{
+    let mut order = order;
+    let mut compared = best.run;
+    for next in start..piece.states as usize {
+        let verdict = compare_from(piece, best, &order.states, compared);
+        let Ordering::Equal = verdict else {
+            return (verdict, order);
+        };
+        compared = order.states.len();
+        visit_next(&shape.near, &mut order, next);
+    }
+    (Ordering::Equal, order)
+}
+
 /// How the outputs in the order from an entry compare with those in the best order. Breadth first, and only as far as they
-/// are the same and no bound decides. The order is the search's own while it runs, so that it stands in registers; it is
-/// handed back for the next search.
+/// are the same. Within the run of the best order no outputs are read: there a state stands below its limit as soon as a
+/// high state is sure to come within the run, which is greater; where none does, none is high. The order is the search's
+/// own while it runs, so that it stands in registers; it is handed back for the next search.
 pub(crate) fn compare_rows(
     piece: &Piece,
     shape: &Shape,
@@ -182,7 +196,7 @@ pub(crate) fn compare_rows(
     requires component { IsComponent (component piece.now) }
     requires connected { IsStronglyConnected (component piece.now) }
     requires shape { IsShape (component piece.now) shape.now }
-    requires best { IsBest (component piece.now) shape.now.highs.items best.now }
+    requires best { IsBest (component piece.now) shape.now best.now }
     requires entry { entry < piece.now.states }
     requires room { vec_len order.places ≡ piece.now.states }
     ensures order { result.0 ≡ slice_cmp nat_cmp (outputs_part (component piece.now) (states_in_order (component piece.now) entry)) (outputs_part (component piece.now) (states_in_order (component piece.now) best.now.entry)) }
@@ -190,14 +204,15 @@ pub(crate) fn compare_rows(
 {
     let mut order = order;
     order.begin(entry);
-    let mut compared = 0;
-    for next in 0..piece.states as usize {
-        let verdict = compare_from(piece, shape, best, &order.states, compared);
-        let Ordering::Equal = verdict else {
-            return (verdict, order);
-        };
-        compared = order.states.len();
-        visit_next(&shape.near, &mut order, next);
+    if 0 < best.limits[entry as usize] {
+        return (Ordering::Greater, order);
     }
-    (Ordering::Equal, order)
+    let mut next = 0;
+    while order.states.len() < best.run {
+        if visit_next_until(&shape.near, &best.limits, &mut order, next) {
+            return (Ordering::Greater, order);
+        }
+        next += 1;
+    }
+    compare_behind_run(piece, shape, best, entry, next, order)
 }

@@ -7,8 +7,8 @@ use Rattle.pt_code.proofs.least.best_of.Goals as goal
 
 pub loop-entry-init : goal.loop-entry-init
 loop-entry-init c = record {
-  leads = leads-first (component c.args.piece.now) _ c.set_best.ensures.entry;
-  best = c.set_best.ensures.best;
+  leads = leads-first (component c.args.piece.now) _ c.set_best-best.ensures.entry;
+  best = c.set_best-best.ensures.best;
   own_room = c.in_ok-order.ensures.room;
   room = c.in_ok-side.ensures.room;
   other_room = c.in_ok-other.ensures.room;

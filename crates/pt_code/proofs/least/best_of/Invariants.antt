@@ -7,7 +7,7 @@ use Rattle.pt_code.proofs.least.best_of.Given as goal
 abbrev pub invariant-loop-entry : goal.invariant-loop-entry
 invariant-loop-entry l = record {
   leads : Leads (component l.piece) l.entry l.best.entry;
-  best : IsBest (component l.piece) l.shape.highs.items l.best;
+  best : IsBest (component l.piece) l.shape l.best;
   own_room : vec_len l.order.places ≡ l.piece.states;
   room : vec_len l.side.order.places ≡ l.piece.states;
   other_room : vec_len l.other.order.places ≡ l.piece.states;

@@ -1,10 +1,5 @@
-use Rattle.std.proofs.Common.{◌≡◌, sym, ◌∙◌}
-use Rattle.std.specs.Ordering.{nat_cmp}
-use Rattle.std.specs.Cmp.Lexicographic.{slice_cmp}
-use Rattle.pt_sets.specs.Components.{code_from}
+use Rattle.std.proofs.Common.{sym, ◌∙◌}
 use Rattle.pt_code.specs.Component.{component}
-use Rattle.pt_code.specs.Parts.{links_part}
-use Rattle.pt_code.proofs.Answering.{if_ok_by}
 use Rattle.pt_code.proofs.Deciding.{code-decided, code-even}
 use Rattle.pt_code.proofs.least.compare_entry.Goals as goal
 

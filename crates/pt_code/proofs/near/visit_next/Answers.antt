@@ -1,12 +1,6 @@
-use Rattle.std.proofs.Common.{◌≡◌, ◌<◌, ℕ, List, length, sym, subst, ◌∙◌, arith, get_or}
-use Rattle.std.proofs.lemmas.Grind.{get_or_default_zero}
+use Rattle.std.proofs.Common.{◌<◌, length, arith}
+use Rattle.pt_code.proofs.Numbering.{state-at}
 use Rattle.pt_code.proofs.near.visit_next.Goals as goal
-
--- the state at a place of an order is one of those that have places
-state-at : (states places : List ℕ) (n q : ℕ) → ((j : ℕ) → j < length states → get_or states j 0 < length places) → n < length states → q ≡ get_or states n q → (q ≡ get_or states n 0) × (q < length places)
-state-at states places n q within inside is =
-    let at = is ∙ get_or_default_zero states n q inside in
-    (at, subst (λ (r : ℕ). r < length places) (sym at) (within n inside))
 
 pub of-requires : goal.of-requires
 of-requires c =

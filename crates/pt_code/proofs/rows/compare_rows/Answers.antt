@@ -1,114 +1,119 @@
-use Rattle.std.proofs.Common.{rules, ◌≡◌, ◌<◌, ◌+◌, ◌≤◌, ◌++◌, ℕ, List, take, length, length-append, sym, ap, ◌∙◌, subst, arith, get_or}
-use Rattle.std.specs.Prelude.{All}
-use Rattle.std.proofs.lemmas.List.{take-append-le}
-use Rattle.std.proofs.Math.ListN.{get_or-append}
-use Rattle.pt_sets.specs.Components.{near_states, edges_from}
+use Rattle.std.proofs.Common.{vec_len, ◌≡◌, ◌<◌, ◌≤◌, ℕ, List, length, length-append, refl, sym, ap, ◌∙◌, subst, arith, get_or}
+use Rattle.std.proofs.lemmas.Grind.{get_or_default_zero}
 use Rattle.pt_sets.proofs.SearchOrder.{order-length}
-use Rattle.pt_code.proofs.Deciding.{rows-decided, rows-same}
 use Rattle.pt_code.specs.Component.{component}
-use Rattle.pt_code.specs.Parts.{row_of}
-use Rattle.pt_code.specs.Searching.{successors, visit_all}
-use Rattle.pt_code.proofs.Queue.{entry-begins, visits-more, Met-begins, Met-within}
-use Rattle.pt_code.proofs.Nearby.{All-by, visit-once, Met-inside, Met-once, met-row, near-rows}
+use Rattle.pt_code.specs.Limiting.{IsLate, IsSoon}
+use Rattle.pt_code.specs.declared.order.Order.{Order}
+use Rattle.pt_code.specs.Searching.{row_at, visit_all}
+use Rattle.pt_code.proofs.Limiting.{late-begins, late-same, Met-in_run, Met-next, soon-decides}
+use Rattle.pt_code.proofs.Nearby.{near-rows}
+use Rattle.pt_code.proofs.Queue.{entry-begins}
 use Rattle.pt_code.proofs.rows.compare_rows.Goals as goal
 
-pub loop-next-init : goal.loop-next-init
-loop-next-init c =
+-- the limit of the entry
+entry-limit : (limits : List ℕ) (count entry limit : ℕ) → length limits ≡ count → entry < count → limit ≡ get_or limits entry limit → limit ≡ get_or limits entry 0
+entry-limit limits count entry limit all inside is = is ∙ get_or_default_zero limits entry limit (omega (arith, all, inside))
+
+-- an order that is shorter than the run
+shorter : (order : Order) (count run : ℕ) → count ≡ vec_len order.states → count < run → length order.states.items < run
+shorter order count run is short = omega (arith, is, short, order.states.ok.0)
+
+pub returns-then-index-gt0-clause-order : goal.returns-then-index-gt0-clause-order
+returns-then-index-gt0-clause-order c =
     let p = component c.args.piece.now in
     let first = c.begin.ensures.states in
+    let (more, begins) = entry-begins p c.args.entry c.requires.component c.requires.entry c.begin.new.self.states.items first in
+    let hit = c.if-index-gt0.true in
+    let below : 0 < get_or c.args.best.now.limits.items c.args.entry 0 = let at = entry-limit c.args.best.now.limits.items c.args.piece.now.states c.args.entry c.index.result.now (c.requires.best.limits.all ∙ c.requires.shape.all) c.requires.entry c.index.ensures in omega (arith, at, hit) in
+    soon-decides p c.requires.component c.requires.connected c.args.entry c.requires.entry c.args.shape.now c.args.best.now c.requires.best c.requires.shape
+    c.begin.new.self.states.items more begins (subst (IsSoon c.args.best.now.limits.items) (sym first) (0, omega arith, below))
+
+pub loop-order-init : goal.loop-order-init
+loop-order-init c =
+    let p = component c.args.piece.now in
+    let first = c.begin.ensures.states in
+    let none = c.if-index-gt0.false in
     record {
       met = first;
-      begins = entry-begins p c.args.entry c.requires.component c.requires.entry _ first;
+      begins = entry-begins p c.args.entry c.requires.component c.requires.entry c.begin.new.self.states.items first;
       numbered = c.begin.ensures.numbered;
       room = c.begin.ensures.room ∙ c.requires.room;
-      compared = omega arith;
+      late = late-begins c.args.best.now.limits.items c.begin.new.self.states.items c.args.entry first (let at = entry-limit c.args.best.now.limits.items c.args.piece.now.states c.args.entry c.index.result.now (c.requires.best.limits.all ∙ c.requires.shape.all) c.requires.entry c.index.ensures in omega (arith, at, none));
       next = omega arith;
-      same = λ i h. absurd (omega arith);
     }
 
-pub compare_from-verdict-requires : goal.compare_from-verdict-requires
-compare_from-verdict-requires c =
+pub visit_next_until-requires-clause-rows : goal.visit_next_until-requires-clause-rows
+visit_next_until-requires-clause-rows c =
+    let near = c.args.shape.now.near in
+    near-rows (component c.args.piece.now) c.requires.component near.starts.items near.targets.items c.requires.shape.near _ c.loop-order.invariant.room
+
+pub visit_next_until-requires-clause-next : goal.visit_next_until-requires-clause-next
+visit_next_until-requires-clause-next c =
     let p = component c.args.piece.now in
-    let order = c.loop-next.order.states.items in
-    let met = c.loop-next.invariant.met in
-    let (more, begins) = c.loop-next.invariant.begins in
+    let short = shorter c.loop-order.order c.len.result c.args.best.now.run c.len.ensures c.loop-order-test.true in
+    let inside = Met-in_run p c.requires.component c.requires.connected c.args.entry c.requires.entry c.args.shape.now c.args.best.now c.requires.best c.loop-order.order.states.items c.loop-order.next c.loop-order.invariant.met short in
+    omega (arith, inside, c.loop-order.order.states.ok.0)
+
+pub returns-then-visit_next_until-clause-order : goal.returns-then-visit_next_until-clause-order
+returns-then-visit_next_until-clause-order c =
+    let p = component c.args.piece.now in
+    let short = shorter c.loop-order.order c.len.result c.args.best.now.run c.len.ensures c.loop-order-test.true in
+    let inside = Met-in_run p c.requires.component c.requires.connected c.args.entry c.requires.entry c.args.shape.now c.args.best.now c.requires.best c.loop-order.order.states.items c.loop-order.next c.loop-order.invariant.met short in
+    let near = c.args.shape.now.near in
+    let order = c.loop-order.order.states.items in
+    let (more, begins) = c.loop-order.invariant.begins in
     let size = ap length begins ∙ length-append order more in
     let all = order-length p c.requires.component c.args.entry c.requires.entry c.requires.connected in
-    let within : All (λ q. q < c.args.piece.now.states) order = All-by (λ q. q < c.args.piece.now.states) order (Met-within p c.args.entry c.requires.component c.requires.entry order c.loop-next.next met) in
-    record {
-      component = c.requires.component;
-      connected = c.requires.connected;
-      shape = c.requires.shape;
-      best = c.requires.best;
-      states = subst (All (λ q. q < c.args.piece.now.states)) (sym c.deref.ensures.value) within;
-      few = let shown = ap length c.deref.ensures.value in omega (arith, shown, size, all);
-      from = let shown = ap length c.deref.ensures.value in omega (arith, shown, c.loop-next.invariant.compared);
-      same = λ i h. ap (λ (l : List ℕ). row_of p (get_or l i 0)) c.deref.ensures.value ∙ c.loop-next.invariant.same i h;
-    }
+    let in_n : c.loop-order.next < c.args.piece.now.states = omega (arith, inside, size, all) in
+    let new = visit_all order (row_at near.starts.items near.targets.items (get_or order c.loop-order.next 0)) in
+    let (met, (rest, begun)) = Met-next p c.requires.component c.requires.connected c.args.entry c.requires.entry near.starts.items near.targets.items c.requires.shape.near order new more c.loop-order.next c.loop-order.invariant.met in_n refl begins in
+    soon-decides p c.requires.component c.requires.connected c.args.entry c.requires.entry c.args.shape.now c.args.best.now c.requires.best c.requires.shape
+    new rest begun (subst (λ (limits : List ℕ). IsSoon limits new) c.deref.ensures.value (c.if-visit_next_until.ensures.soon refl))
 
-pub visit_next-requires-clause-rows : goal.visit_next-requires-clause-rows
-visit_next-requires-clause-rows c =
+pub loop-order-preserved : goal.loop-order-preserved
+loop-order-preserved c =
+    let p = component c.args.piece.now in
+    let short = shorter c.loop-order.order c.len.result c.args.best.now.run c.len.ensures c.loop-order-test.true in
+    let inside = Met-in_run p c.requires.component c.requires.connected c.args.entry c.requires.entry c.args.shape.now c.args.best.now c.requires.best c.loop-order.order.states.items c.loop-order.next c.loop-order.invariant.met short in
     let near = c.args.shape.now.near in
-    near-rows (component c.args.piece.now) c.requires.component near.starts.items near.targets.items c.requires.shape.near _ c.loop-next.invariant.room
-
-pub visit_next-requires-clause-next : goal.visit_next-requires-clause-next
-visit_next-requires-clause-next c =
-    let inside = Met-inside (component c.args.piece.now) c.requires.component c.requires.connected c.args.entry c.requires.entry c.loop-next.order.states.items c.loop-next.next c.loop-next.invariant.met c.loop-next-test.true in
-    omega (arith, inside, c.loop-next.order.states.ok.0)
-
-pub loop-next-preserved : goal.loop-next-preserved
-loop-next-preserved c =
-    let p = component c.args.piece.now in
-    let near = c.args.shape.now.near in
-    let order = c.loop-next.order.states.items in
-    let n = c.loop-next.next in
-    let met = c.loop-next.invariant.met in
-    let in_n : n < c.args.piece.now.states = c.loop-next-test.true in
-    let new = c.visit_next.new.order.states.items in
-    let targets = near_states (edges_from p (get_or order n 0)) in
-    let step : new ≡ visit_all order (successors p (get_or order n 0)) = c.visit_next.ensures.states ∙ ap (visit_all order) (met-row p c.requires.component c.requires.connected c.args.entry c.requires.entry near.starts.items near.targets.items c.requires.shape.near order n met in_n) in
-    let met' = Met-once p c.requires.component c.requires.connected c.args.entry c.requires.entry order new n met in_n step in
-    let inside = Met-inside p c.requires.component c.requires.connected c.args.entry c.requires.entry order n met in_n in
-    let (x, longer) = visits-more order targets in
-    let grown : new ≡ order ++ x = step ∙ visit-once order targets ∙ longer in
-    let front : take (n + 1) new ≡ take (n + 1) order = ap (take (n + 1)) grown ∙ take-append-le (n + 1) order x (omega (arith, inside)) in
-    let (more, begins) = c.loop-next.invariant.begins in
-    let count : c.len-compared.result ≡ length order = search rules in
-    let size = ap length grown ∙ length-append order x in
-    record {
-      met = met';
-      begins = Met-begins p c.args.entry c.requires.component c.requires.entry order new more (n + 1) met' front begins;
-      numbered = c.visit_next.ensures.numbered;
-      room = c.visit_next.ensures.room ∙ c.loop-next.invariant.room;
-      compared = omega (arith, size, count);
-      next = omega (arith, inside, count);
-      same = λ i h.
-          let early : i < length order = omega (arith, count, h) in
-          let shown : i < length c.deref.result.now = let same = ap length c.deref.ensures.value in omega (arith, same, early) in
-          ap (λ (l : List ℕ). row_of p (get_or l i 0)) grown
-          ∙ ap (row_of p) (get_or-append order x 0 i early)
-          ∙ ap (λ (l : List ℕ). row_of p (get_or l i 0)) (sym c.deref.ensures.value)
-          ∙ c.compare_from-verdict.ensures.same c.in-Equal.is i shown;
-    }
-
-pub returns-in_default-clause-order : goal.returns-in_default-clause-order
-returns-in_default-clause-order c =
-    let p = component c.args.piece.now in
-    let (more, begins) = c.loop-next.invariant.begins in
-    rows-decided p c.requires.component c.requires.connected c.args.entry c.args.best.now.entry c.requires.entry c.requires.best.within
-    c.args.best.now.order.states.items c.compare_from-verdict.result c.requires.best.states c.in_default.not-Equal
-    (c.compare_from-verdict.ensures.apart c.args.entry more c.requires.entry (begins ∙ ap (λ (l : List ℕ). l ++ more) (sym c.deref.ensures.value)) c.in_default.not-Equal)
-
-pub returns-clause-order : goal.returns-clause-order
-returns-clause-order c =
-    let p = component c.args.piece.now in
-    let order = c.loop-next.order.states.items in
-    let (more, begins) = c.loop-next.invariant.begins in
+    let order = c.loop-order.order.states.items in
+    let (more, begins) = c.loop-order.invariant.begins in
+    let size = ap length begins ∙ length-append order more in
     let all = order-length p c.requires.component c.args.entry c.requires.entry c.requires.connected in
-    let past : c.args.piece.now.states ≤ c.loop-next.next = c.loop-next-test.false in
-    rows-same p c.requires.component c.requires.connected c.args.entry c.args.best.now.entry c.requires.entry c.requires.best.within
-    (λ i h.
-    let early : i < c.loop-next.compared = let next = c.loop-next.invariant.next in omega (arith, past, next, h) in
-    let inside : i < length order = let compared = c.loop-next.invariant.compared in omega (arith, compared, early) in
-    ap (λ (l : List ℕ). row_of p (get_or l i 0)) begins ∙ ap (row_of p) (get_or-append order more 0 i inside) ∙ c.loop-next.invariant.same i early
-    ∙ ap (λ (l : List ℕ). row_of p (get_or l i 0)) c.requires.best.states)
+    let in_n : c.loop-order.next < c.args.piece.now.states = omega (arith, inside, size, all) in
+    let new = c.visit_next_until.new.order.states.items in
+    let (met, begun) = Met-next p c.requires.component c.requires.connected c.args.entry c.requires.entry near.starts.items near.targets.items c.requires.shape.near order new more c.loop-order.next c.loop-order.invariant.met in_n
+    (c.visit_next_until.ensures.states c.if-visit_next_until.false) begins in
+    record {
+      met = met;
+      begins = begun;
+      numbered = c.visit_next_until.ensures.numbered;
+      room = c.visit_next_until.ensures.room ∙ c.loop-order.invariant.room;
+      late = subst (λ (limits : List ℕ). IsLate limits new) c.deref.ensures.value (c.visit_next_until.ensures.late c.if-visit_next_until.false);
+      next = omega (arith, inside, short);
+    }
+
+pub loop-order-smaller : goal.loop-order-smaller
+loop-order-smaller c =
+    let p = component c.args.piece.now in
+    let short = shorter c.loop-order.order c.len.result c.args.best.now.run c.len.ensures c.loop-order-test.true in
+    let inside = Met-in_run p c.requires.component c.requires.connected c.args.entry c.requires.entry c.args.shape.now c.args.best.now c.requires.best c.loop-order.order.states.items c.loop-order.next c.loop-order.invariant.met short in
+    omega (arith, inside, short)
+
+pub compare_behind_run-requires-clause-met : goal.compare_behind_run-requires-clause-met
+compare_behind_run-requires-clause-met c =
+    let p = component c.args.piece.now in
+    let order = c.loop-order.order.states.items in
+    let (more, begins) = c.loop-order.invariant.begins in
+    let past = c.loop-order-test.false in
+    let count = c.len.ensures in
+    let long : c.args.best.now.run ≤ length order = omega (arith, past, count, c.loop-order.order.states.ok.0) in
+    record {
+      met = c.loop-order.invariant.met;
+      begins = c.loop-order.invariant.begins;
+      numbered = c.loop-order.invariant.numbered;
+      room = sym c.loop-order.order.places.ok.0 ∙ c.loop-order.invariant.room;
+      long = long;
+      few = c.loop-order.invariant.next;
+      same = late-same p c.requires.component c.requires.connected c.args.entry c.requires.entry c.args.shape.now c.args.best.now c.requires.best c.requires.shape order more begins c.loop-order.invariant.late long;
+    }
