@@ -122,6 +122,37 @@ fn a_pass_shows_a_list_up_to_what_it_interned(rt: HostRuntime) -> Result<(), Fai
     Ok(())
 }
 
+// Interns a code through a pass of its own, which is dropped.
+fn intern_and_drop<I: Sharing>(
+    alloc: Global,
+    store: &I,
+    pass: &mut I::Pass,
+    code: Arc<Code>,
+) -> Result<Place, StoreFault>
+    requires { I.owns store.now pass.old }
+    ensures { I.owns store.now pass.new }
+{
+    let mut other = store.split(alloc, pass)?;
+    store.intern(alloc, &mut other, code)
+}
+
+#[test]
+fn codes_of_a_dropped_pass_stay_published(rt: HostRuntime) -> Result<(), Fail> {
+    let alloc = rt.alloc();
+    let (store, mut pass) = SharedStore::new(alloc, 1, 9, OneShard)?;
+    let dropped = intern_and_drop(alloc, &store, &mut pass, shared(alloc, &NONE)?)?;
+    assert!(rt; dropped.index == 0 && pass.count(0) == 0);
+    let (next, known) = intern_two(
+        alloc,
+        &store,
+        &mut pass,
+        shared(alloc, &ALL)?,
+        shared(alloc, &NONE)?,
+    )?;
+    assert!(rt; (next.index, known.index) == (1, 0) && pass.count(0) == 2 && pass.offers() == 1);
+    Ok(())
+}
+
 #[test]
 fn other_shards_stay_as_the_pass_knew_them(rt: HostRuntime) -> Result<(), Fail> {
     let alloc = rt.alloc();
