@@ -2,12 +2,14 @@
 ghost use Rattle.std.specs.Prelude.{◌<◌};
 
 use crate::*;
+use pt_code::Place;
 use pt_formula::{Formula, FormulaFault, Kind, Node, NodeId, Op, Position, Var};
 use pt_handles::expand;
-use pt_store::{OneShard, SharedStore};
+use pt_store::{Codes, Interner, OneShard, SharedStore};
 use pt_tables::Table;
 use std::alloc::Global;
 use std::hint::spin_loop;
+use std::sync::Arc;
 use std::sync::atomic::{AtomicBool, Ordering};
 use std::test::Fail;
 use std::thread::Threads;
@@ -153,9 +155,27 @@ fn solutions_of_worked_formulas(rt: HostRuntime) -> Result<(), Fail> {
     let above_four = no_coins(&mut formula, alloc, -5)?;
     let natural = no_coins(&mut formula, alloc, 0)?;
     for workers in [1u32, 2, 16] {
-        let solved = solve(&rt, alloc, &formula, [five, above_four], 16, 1000, workers, &Open)??;
+        let solved = solve(
+            &rt,
+            alloc,
+            &formula,
+            [five, above_four],
+            16,
+            1000,
+            workers,
+            &Open,
+        )??;
         assert!(rt; solved.first_are(&[5]) && solved.second_are(&[7]));
-        let solved = solve(&rt, alloc, &formula, [natural, 0], 16_384, 1000, workers, &Open)??;
+        let solved = solve(
+            &rt,
+            alloc,
+            &formula,
+            [natural, 0],
+            16_384,
+            1000,
+            workers,
+            &Open,
+        )??;
         assert!(rt; solved.first_are(&[1, 2, 4, 7]) && solved.second_has(&[]));
     }
     Ok(())
@@ -188,6 +208,36 @@ fn refusals_of_worked_formulas(rt: HostRuntime) -> Result<(), Fail> {
     let solved = solve(&rt, alloc, &formula, [none, thousand], 12, 1000, 2, &Open)??;
     assert!(rt; solved.first_are(&[]) && !solved.first_has(&[1000]));
     assert!(rt; solved.second_are(&[]) && solved.second_has(&[1000]));
+    Ok(())
+}
+
+#[test]
+fn a_full_store_takes_a_code_that_it_has(rt: HostRuntime) -> Result<(), Fail> {
+    let alloc = rt.alloc();
+    let mut formula = Formula::new(alloc)?;
+    let five = formula.atom(alloc, Kind::Eq, &[(0, 1)], 5, HERE)?;
+    if five >= formula.len() {
+        return Err("root")?;
+    }
+    let (store, mut pass) = SharedStore::new(alloc, 1, 1, OneShard)?;
+    let ended = evaluate(
+        &rt,
+        alloc,
+        &store,
+        &mut pass,
+        &formula,
+        &[five],
+        16,
+        1,
+        &Open,
+    );
+    assert!(rt; ended.err() == Some(EvalFault::Full { shard: 0, count: 1 }));
+    let first = Place { shard: 0, index: 0 };
+    let code = Arc::try_clone(pass.code(first).ok_or("a code")?)?;
+    let offers = pass.offers();
+    let place = store.intern(alloc, &mut pass, code)?;
+    assert!(rt; place == first && pass.offers() == offers && pass.count(0) == 1);
+    assert!(rt; pass.code(Place { shard: 0, index: 1 }).is_none());
     Ok(())
 }
 
@@ -421,7 +471,9 @@ fn made_up_agrees<R: Threads + Sync>(
     let (formula, last, other) = made_up(alloc, seed)?;
     let truths = truths_of(alloc, &formula)?;
     let roots = [last, other];
-    let solved = solve(rt, alloc, &formula, roots, 65_536, 1_000_000, workers, &Open)??;
+    let solved = solve(
+        rt, alloc, &formula, roots, 65_536, 1_000_000, workers, &Open,
+    )??;
     let first = agrees(
         alloc,
         &formula,
