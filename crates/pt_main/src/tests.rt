@@ -13,6 +13,7 @@ mod bool_quantifiers;
 mod bools;
 mod counting;
 mod drills;
+mod hostile;
 mod laws;
 mod sets;
 mod workers;
