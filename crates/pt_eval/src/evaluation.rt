@@ -114,7 +114,6 @@ where
     };
     for row in rows {
         let level = Level {
-            rt,
             formula,
             bound,
             gate,

@@ -1,4 +1,3 @@
-use Rattle.std.proofs.Common.{ℕ, ◌<◌, length, map}
 use Rattle.pt_eval.proofs.ToldLaws.{told-written}
 use Rattle.pt_eval.proofs.evaluation.write_results.Goals as goal
 
