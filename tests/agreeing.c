@@ -20,7 +20,7 @@ static long left;
 
 static void extend(int at, uint64_t state) {
     for (int k = 0; k < (at == 0 ? 52 : 64) && left > 0; k++) {
-        uint64_t next = folded(state ^ (uint64_t)LETTERS[k], MULTIPLIER ^ 2);
+        uint64_t next = folded(state ^ 0x10101 * (uint64_t)LETTERS[k], MULTIPLIER ^ 2);
         name[at] = LETTERS[k];
         if (at + 1 < SIZE)
             extend(at + 1, next);

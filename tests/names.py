@@ -6,6 +6,7 @@ import subprocess
 import tempfile
 
 COUNT = 100_000
+QUADRATIC = 120
 SOURCE = os.path.join(os.path.dirname(os.path.abspath(__file__)), "agreeing.c")
 
 
@@ -39,11 +40,12 @@ def bound(known):
 
 
 def scripts():
-    yield "100,000 names of one sum", declared(permuted()), b"sat\n"
-    yield "100,000 bound names of one polynomial", bound(of_one_polynomial()), b"sat\n"
+    """Name, script and the seconds that it may take, where that is not linear in its bytes. Each script is answered `sat`."""
+    yield "100,000 names of one sum", declared(permuted()), None
+    yield "100,000 bound names of one polynomial", bound(of_one_polynomial()), None
     grouped = of_one_group()
     if grouped is None:
         print("       there is no cc: names of one group of the table are skipped")
         return
-    yield "100,000 names of one group of the table", declared(grouped), b"sat\n"
-    yield "100,000 bound names of one group of the table", bound(grouped), b"sat\n"
+    yield "100,000 names of one group of the table", declared(grouped), QUADRATIC
+    yield "100,000 bound names of one group of the table", bound(grouped), QUADRATIC
