@@ -15,12 +15,14 @@ use std::sync::atomic::{AtomicU64, Ordering};
 use std::test::Fail;
 
 /// How often `intern` and `code` were called.
+#[derive(Drop)]
 struct Counts {
     interned: AtomicU64,
     read: AtomicU64,
 }
 
 /// A store that counts the calls.
+#[derive(Drop)]
 struct Counting<'a, I> {
     store: &'a I,
     counts: &'a Counts,
@@ -126,6 +128,7 @@ impl<'a, I: Sharing> Sharing for Counting<'a, I> {
 }
 
 /// Notes the counts at the start and at the end of the work at one node.
+#[derive(Drop)]
 struct Notes<'a> {
     counts: &'a Counts,
     node: u32,
@@ -191,7 +194,7 @@ fn a_run_works_on_the_store(rt: HostRuntime) -> Result<(), Fail> {
         &counting,
         &mut pass,
     );
-    assert!(&rt; status == Status::Done && sink.bytes() == b"sat\n");
+    assert!(&rt; status == Status::Done && sink.bytes() == b"sat\n".as_slice());
     let read_at_end = gate.read_at_end.load(Ordering::SeqCst);
     assert!(&rt; gate.interned_at_start.load(Ordering::SeqCst) > 0);
     assert!(&rt; gate.read_at_start.load(Ordering::SeqCst) < read_at_end);
