@@ -146,25 +146,26 @@ fn want_of_memory_goes_before_a_full_shard(rt: HostRuntime) -> Result<(), Fail> 
     let alloc = rt.alloc();
     let work = three_codes(alloc)?;
     let full = Some(StoreFault::Full { shard: 0, count: 2 });
-    let (store, mut first) = SharedStore::new(alloc, 1, 2, OneShard)?;
+    let (made, mut first) = SharedStore::new(alloc, 1, 2, OneShard)?;
+    let store = &made;
     let mut second = store.split(alloc, &mut first)?;
-    let told = share(&rt, alloc, &store, &mut first, &work, &[0, 1], 2)?;
+    let told = share(&rt, alloc, store, &mut first, &work, &[0, 1], 2)?;
     assert!(rt; stand(&first, &work, told.as_slice()) && second.count(0) == 0);
 
     // The pass has all codes of the full shard, also those that a worker met whose number was refused.
-    let told = share(&rt, alloc, &store, &mut second, &work, &[2, 1, 0], 3);
+    let told = share(&rt, alloc, store, &mut second, &work, &[2, 1, 0], 3);
     assert!(rt; told.err() == full && second.count(0) == 2);
     for workers in [1u32, 2, 3, 16] {
-        let told = share(&rt, alloc, &store, &mut first, &work, &[0, 2, 1], workers);
+        let told = share(&rt, alloc, store, &mut first, &work, &[0, 2, 1], workers);
         assert!(rt; told.err() == full);
-        let told = share(&rt, alloc, &store, &mut first, &work, &[9, 2], workers);
+        let told = share(&rt, alloc, store, &mut first, &work, &[9, 2], workers);
         assert!(rt; told.err() == Some(StoreFault::NoMemory));
     }
 
     // Number 2 is refused before number 9 on one thread alone.
-    let told = share(&rt, alloc, &store, &mut first, &work, &[2, 9], 1);
+    let told = share(&rt, alloc, store, &mut first, &work, &[2, 9], 1);
     assert!(rt; told.err() == full);
-    let told = share(&rt, alloc, &store, &mut first, &work, &[2, 9], 2);
+    let told = share(&rt, alloc, store, &mut first, &work, &[2, 9], 2);
     assert!(rt; told.err() == Some(StoreFault::NoMemory));
     Ok(())
 }
