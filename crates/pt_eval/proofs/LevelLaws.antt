@@ -1,6 +1,6 @@
 -- Levels of nodes, and lists of the nodes of each level.
 use Rattle.std.proofs.Common.{◌≡◌, ◌≢◌, ◌⊎◌, inl, inr, ℕ, zero, suc, ◌+◌, ◌<◌, ◌≤◌, List, [], ◌∷◌, ◌++◌, length, map, take, Option, Some, refl, ap, sym, subst, ◌∙◌, arith}
-use Rattle.std.specs.Prelude.{◌↔◌, slice_index}
+use Rattle.std.specs.Prelude.{◌↔◌, false, max, nat_eq, slice_index}
 use Rattle.std.specs.List.{AllByRecursion}
 use Rattle.std.specs.Global.{Vec}
 use Rattle.std.proofs.lemmas.Bool.{cases_lt, cases_eq}
@@ -53,6 +53,29 @@ low-below f is (suc n) i lt = level-most f is i i (λ c child. (let earlier = ea
 -- a level is at most the node's number
 pub level-low : (f : List (Node × Position)) → IsFormula f → (i : ℕ) → level_of f i ≤ i
 level-low f is i = low-below f is (suc i) i (omega arith)
+
+-- the level of a node from the known levels of its children
+module _ (f : List (Node × Position)) (is : IsFormula f) (i : ℕ) (level : ℕ → Option ℕ) (known : AllByRecursion (λ c. level c ≡ Some (level_of f c)) (children (node_at f i))) where
+  read-level : (c n : ℕ) → ContainsByRecursion c (children (node_at f i)) → level c ≡ Some n → (n ≡ level_of f c) × (n < i)
+  read-level c n child read =
+      let value : Some n ≡ Some (level_of f c) = sym read ∙ all-contains (λ (d : ℕ). level d ≡ Some (level_of f d)) c (children (node_at f i)) known child in
+      let same : n ≡ level_of f c = cc value in
+      let low = level-low f is c in
+      let earlier = earlier-child f is i c child in
+      (same, omega (arith, same, low, earlier))
+
+  pub one-level : (a x : ℕ) → children (node_at f i) ≡ a ∷ [] → level a ≡ Some x → (level_of f i ≡ x + 1) × (x < i)
+  one-level a x cs read =
+      let (same, low) = read-level a x (subst (λ (ds : List ℕ). ContainsByRecursion a ds) (sym cs) (inl refl)) read in
+      let value : level_of f i ≡ above_all (map (level_of f) (a ∷ [])) = level-children f is i ∙ ap (λ (ds : List ℕ). above_all (map (level_of f) ds)) cs in
+      (omega (arith, value, same), low)
+
+  pub two-levels : (a b x y : ℕ) → children (node_at f i) ≡ a ∷ b ∷ [] → level a ≡ Some x → level b ≡ Some y → (level_of f i ≡ max x y + 1) × (x < i) × (y < i)
+  two-levels a b x y cs read_a read_b =
+      let (same_a, low_a) = read-level a x (subst (λ (ds : List ℕ). ContainsByRecursion a ds) (sym cs) (inl refl)) read_a in
+      let (same_b, low_b) = read-level b y (subst (λ (ds : List ℕ). ContainsByRecursion b ds) (sym cs) (inr (inl refl))) read_b in
+      let value : level_of f i ≡ above_all (map (level_of f) (a ∷ b ∷ [])) = level-children f is i ∙ ap (λ (ds : List ℕ). above_all (map (level_of f) ds)) cs in
+      (omega (arith, value, same_a, same_b), low_a, low_b)
 
 -- ---- nodes by number
 
@@ -183,6 +206,21 @@ planning-ends f nodes level rows are = record {
   increasing = are.increasing;
   planned = λ l i. (are.sound l i, λ (among, level_is). subst (λ (z : ℕ). ContainsByRecursion i (row_of rows z)) level_is (are.complete i among));
 }
+
+-- a key that is another number
+pub get-apart : (n i : ℕ) → i ≢ n → nat_eq n i ≡ false
+get-apart n i apart = grind (arith, common_steps)
+
+-- the children of the next node come before it
+module _ (f : List (Node × Position)) (is : IsFormula f) (nodes : List ℕ) (k : ℕ) (level : ℕ → Option ℕ) (rows : List (Vec ℕ)) (closed : AreClosed f nodes) (lt : k < length nodes) (so_far : IsPlanning f (take k nodes) level rows) where
+  child-before : (c : ℕ) → ContainsByRecursion c (children (node_at f (slice_index nodes k))) → ContainsByRecursion c (take k nodes)
+  child-before c child = less-front nodes k c lt closed.increasing (closed.children (slice_index nodes k) c (contains-at nodes k lt) child) (earlier-child f is (slice_index nodes k) c child)
+
+  pub children-known : AllByRecursion (λ c. level c ≡ Some (level_of f c)) (children (node_at f (slice_index nodes k)))
+  children-known = all-from (λ (c : ℕ). level c ≡ Some (level_of f c)) (children (node_at f (slice_index nodes k))) (λ c child. so_far.known c (child-before c child))
+
+  pub level-near : level_of f (slice_index nodes k) ≤ length rows
+  level-near = level-most f is (slice_index nodes k) (length rows) (λ c child. so_far.near c (child-before c child))
 
 -- ---- the plan
 

@@ -23,10 +23,7 @@ fn push_all(waiting: &mut BinaryHeap<NodeId>, nodes: &[NodeId]) -> Result<(), Al
 }
 
 /// Puts the children of a node into a heap.
-fn push_children(
-    waiting: &mut BinaryHeap<NodeId>,
-    children: Children,
-) -> Result<(), AllocError>
+fn push_children(waiting: &mut BinaryHeap<NodeId>, children: Children) -> Result<(), AllocError>
     requires { IsHeap nat_cmp (heap_items waiting.old) }
     ensures order { OnOk result (IsHeap nat_cmp (heap_items waiting.new)) }
     ensures pushed { OnOk result (IsPushed (listed children) (heap_items waiting.old) (heap_items waiting.new)) }

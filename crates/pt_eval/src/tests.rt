@@ -153,9 +153,27 @@ fn solutions_of_worked_formulas(rt: HostRuntime) -> Result<(), Fail> {
     let above_four = no_coins(&mut formula, alloc, -5)?;
     let natural = no_coins(&mut formula, alloc, 0)?;
     for workers in [1u32, 2, 16] {
-        let solved = solve(&rt, alloc, &formula, [five, above_four], 16, 1000, workers, &Open)??;
+        let solved = solve(
+            &rt,
+            alloc,
+            &formula,
+            [five, above_four],
+            16,
+            1000,
+            workers,
+            &Open,
+        )??;
         assert!(rt; solved.first_are(&[5]) && solved.second_are(&[7]));
-        let solved = solve(&rt, alloc, &formula, [natural, 0], 16_384, 1000, workers, &Open)??;
+        let solved = solve(
+            &rt,
+            alloc,
+            &formula,
+            [natural, 0],
+            16_384,
+            1000,
+            workers,
+            &Open,
+        )??;
         assert!(rt; solved.first_are(&[1, 2, 4, 7]) && solved.second_has(&[]));
     }
     Ok(())
@@ -421,7 +439,9 @@ fn made_up_agrees<R: Threads + Sync>(
     let (formula, last, other) = made_up(alloc, seed)?;
     let truths = truths_of(alloc, &formula)?;
     let roots = [last, other];
-    let solved = solve(rt, alloc, &formula, roots, 65_536, 1_000_000, workers, &Open)??;
+    let solved = solve(
+        rt, alloc, &formula, roots, 65_536, 1_000_000, workers, &Open,
+    )??;
     let first = agrees(
         alloc,
         &formula,
