@@ -10,7 +10,7 @@ use Rattle.pt_sets.specs.Elements.{ContainsByRecursion}
 use Rattle.pt_sets.specs.Lists.{Lists, Home}
 use Rattle.pt_store.specs.declared.fault.StoreFault.{StoreFault}
 use Rattle.pt_store.specs.declared.fault.StoreFault.TheVariants as store
-use Rattle.pt_workers.specs.Works.{AreTold, RefusesOnly, Some_of}
+use Rattle.pt_workers.specs.Works.{RefusesOnly, Some_of}
 use Rattle.pt_formula.specs.declared.node.Node.{Node}
 use Rattle.pt_formula.specs.declared.node.Position.{Position}
 use Rattle.pt_eval.specs.declared.outcome.Outcome.{Outcome}

@@ -8,8 +8,7 @@ use Rattle.pt_store.specs.declared.fault.StoreFault.TheVariants.{Full, NoMemory}
 use Rattle.pt_handles.specs.declared.handle.Handle.{Handle}
 use Rattle.pt_formula.specs.declared.node.Node.{Node}
 use Rattle.pt_formula.specs.declared.node.Position.{Position}
-use Rattle.pt_formula.specs.Truth.{Solutions}
-use Rattle.pt_formula.specs.Formulas.{node_at, children, tree_of, variables_of}
+use Rattle.pt_formula.specs.Formulas.{node_at, children, tree_of}
 use Rattle.pt_formula.specs.Costs.{IsBelow, IsCostly, TreeCostWithin}
 use Rattle.pt_eval.specs.Evaluating.{IsCheap, HasSolutions, HasFewResiduals, LacksSolutions, IsFullAt}
 use Rattle.pt_eval.specs.declared.outcome.Outcome.{Outcome}

@@ -49,7 +49,8 @@ pub(crate) fn split_each<I: Sharing>(
 }
 
 /// Works on the numbers of a hand.
-fn work_hand<I: Interner, W: Work>(
+fn work_hand<I: Interner, W: Work, R: Threads + Sync>(
+    rt: &R,
     alloc: Global,
     store: &I,
     work: &W,
@@ -59,7 +60,7 @@ fn work_hand<I: Interner, W: Work>(
     ensures { IsReportFor (I.owns store.now) I.Pass.lists I.Pass.offered (I.limit_of store.now) (W.gives work.now I.Pass.home) (W.lacks work.now I.Pass.home (I.limit_of store.now)) (W.most work.now) hand result }
 {
     let Hand { mut pass, numbers } = hand;
-    let told = work_through(alloc, store, &mut pass, work, &numbers);
+    let told = work_through(rt, alloc, store, &mut pass, work, &numbers);
     Report {
         pass,
         numbers,
@@ -85,6 +86,6 @@ where
     let each = |hand: Hand<I::Pass>| -> Report<I::Pass, W::Answer>
         requires { IsReady (I.owns store.now) I.Pass.lists I.Pass.offered (W.may_begin work.now I.Pass.home) hand }
         ensures { IsReportFor (I.owns store.entry.now) I.Pass.lists I.Pass.offered (I.limit_of store.entry.now) (W.gives work.entry.now I.Pass.home) (W.lacks work.entry.now I.Pass.home (I.limit_of store.entry.now)) (W.most work.entry.now) hand result }
-    { work_hand(alloc, store, work, hand) };
+    { work_hand(rt, alloc, store, work, hand) };
     thread::map_vec(rt, hands, &each)
 }
