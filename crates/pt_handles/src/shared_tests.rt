@@ -39,6 +39,8 @@ fn adopt_twice<R: Threads + Sync, I: Sharing>(
     table: &Table,
     start: u32,
 ) -> Option<(I::Pass, Handle, Handle)>
+where
+    I::Pass: Send,
     requires first { I.owns store.now first }
     requires second { I.owns store.now second }
     requires start { start < table.now.states }

@@ -38,6 +38,8 @@ fn two_threads<R: Threads + Sync, I: Sharing>(
     store: &I,
     mut first: I::Pass,
 ) -> Result<(bool, I::Pass), Fail>
+where
+    I::Pass: Send,
     requires { I.owns store.now first }
     ensures { IfOk result (λ after. I.owns store.now after.1) }
 {
