@@ -126,13 +126,49 @@ fn numbers_are_dealt_in_turn(rt: HostRuntime) -> Result<(), Fail> {
     let alloc = rt.alloc();
     let (store, mut pass) = SharedStore::new(alloc, 1, 10, OneShard)?;
     let mut kept = sixteen(alloc)?;
-    let told = share(&rt, alloc, &store, &mut pass, &Doubles, &mut kept, &[5, 3, 9, 4], 1)?;
+    let told = share(
+        &rt,
+        alloc,
+        &store,
+        &mut pass,
+        &Doubles,
+        &mut kept,
+        &[5, 3, 9, 4],
+        1,
+    )?;
     assert!(rt; told.as_slice() == [(5, 10), (3, 6), (9, 18), (4, 8)].as_slice());
-    let told = share(&rt, alloc, &store, &mut pass, &Doubles, &mut kept, &[5, 3, 9, 4], 2)?;
+    let told = share(
+        &rt,
+        alloc,
+        &store,
+        &mut pass,
+        &Doubles,
+        &mut kept,
+        &[5, 3, 9, 4],
+        2,
+    )?;
     assert!(rt; told.as_slice() == [(5, 10), (9, 18), (3, 6), (4, 8)].as_slice());
-    let told = share(&rt, alloc, &store, &mut pass, &Doubles, &mut kept, &[5, 3, 9, 4], 3)?;
+    let told = share(
+        &rt,
+        alloc,
+        &store,
+        &mut pass,
+        &Doubles,
+        &mut kept,
+        &[5, 3, 9, 4],
+        3,
+    )?;
     assert!(rt; told.as_slice() == [(5, 10), (4, 8), (3, 6), (9, 18)].as_slice());
-    let told = share(&rt, alloc, &store, &mut pass, &Doubles, &mut kept, &[7, 5, 7], 16)?;
+    let told = share(
+        &rt,
+        alloc,
+        &store,
+        &mut pass,
+        &Doubles,
+        &mut kept,
+        &[7, 5, 7],
+        16,
+    )?;
     assert!(rt; told.as_slice() == [(7, 14), (5, 10), (7, 14)].as_slice());
     let told = share(&rt, alloc, &store, &mut pass, &Doubles, &mut kept, &[], 16)?;
     assert!(rt; told.is_empty());
@@ -153,7 +189,9 @@ fn workers_intern_the_same_codes(rt: HostRuntime) -> Result<(), Fail> {
             // Two workers meet the three codes in opposite orders.
             let numbers = [0, 2, 1, 1, 2, 0];
             let mut kept = sixteen(alloc)?;
-            let told = share(&rt, alloc, &store, &mut pass, &work, &mut kept, &numbers, workers)?;
+            let told = share(
+                &rt, alloc, &store, &mut pass, &work, &mut kept, &numbers, workers,
+            )?;
             assert!(rt; told.len() == 6 && stand(&pass, &work, told.as_slice()));
             assert!(rt; pass.count(0) == 3 && pass.offers() >= 3 && pass.offers() <= 6);
         }
@@ -173,18 +211,50 @@ fn want_of_memory_goes_before_a_full_shard(rt: HostRuntime) -> Result<(), Fail> 
     assert!(rt; stand(&first, &work, told.as_slice()) && second.count(0) == 0);
 
     // The pass has all codes of the full shard, also those that a worker met whose number was refused.
-    let told = share(&rt, alloc, &store, &mut second, &work, &mut kept, &[2, 1, 0], 3);
+    let mut kept = sixteen(alloc)?;
+    let told = share(
+        &rt,
+        alloc,
+        &store,
+        &mut second,
+        &work,
+        &mut kept,
+        &[2, 1, 0],
+        3,
+    );
     assert!(rt; told.err() == full && second.count(0) == 2);
     for workers in [1u32, 2, 3, 16] {
-        let told = share(&rt, alloc, &store, &mut first, &work, &mut kept, &[0, 2, 1], workers);
+        let mut kept = sixteen(alloc)?;
+        let told = share(
+            &rt,
+            alloc,
+            &store,
+            &mut first,
+            &work,
+            &mut kept,
+            &[0, 2, 1],
+            workers,
+        );
         assert!(rt; told.err() == full);
-        let told = share(&rt, alloc, &store, &mut first, &work, &mut kept, &[9, 2], workers);
+        let mut kept = sixteen(alloc)?;
+        let told = share(
+            &rt,
+            alloc,
+            &store,
+            &mut first,
+            &work,
+            &mut kept,
+            &[9, 2],
+            workers,
+        );
         assert!(rt; told.err() == Some(StoreFault::NoMemory));
     }
 
     // Number 2 is refused before number 9 on one thread alone.
+    let mut kept = sixteen(alloc)?;
     let told = share(&rt, alloc, &store, &mut first, &work, &mut kept, &[2, 9], 1);
     assert!(rt; told.err() == full);
+    let mut kept = sixteen(alloc)?;
     let told = share(&rt, alloc, &store, &mut first, &work, &mut kept, &[2, 9], 2);
     assert!(rt; told.err() == Some(StoreFault::NoMemory));
     Ok(())
