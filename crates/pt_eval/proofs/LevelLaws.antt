@@ -1,9 +1,9 @@
 -- Levels of nodes, and lists of the nodes of each level.
-use Rattle.std.proofs.Common.{◌≡◌, ◌≢◌, ◌⊎◌, inl, inr, ℕ, zero, suc, ◌+◌, ◌<◌, ◌≤◌, List, [], ◌∷◌, ◌++◌, length, map, take, Option, Some, refl, ap, sym, subst, ◌∙◌, arith}
-use Rattle.std.specs.Prelude.{◌↔◌, false, max, nat_eq, slice_index}
+use Rattle.std.proofs.Common.{◌≡◌, ◌≢◌, inl, inr, ℕ, zero, suc, ◌+◌, ◌<◌, ◌≤◌, List, [], ◌∷◌, ◌++◌, length, map, take, Option, Some, refl, ap, sym, subst, ◌∙◌, arith}
+use Rattle.std.specs.Prelude.{false, max, nat_eq, slice_index}
 use Rattle.std.specs.List.{AllByRecursion}
 use Rattle.std.specs.Global.{Vec}
-use Rattle.std.proofs.lemmas.Bool.{cases_lt, cases_eq}
+use Rattle.std.proofs.lemmas.Bool.{cases_eq}
 use Rattle.std.proofs.lemmas.Grind.{common_steps}
 use Rattle.pt_sets.specs.Elements.{ContainsByRecursion}
 use Rattle.pt_formula.specs.declared.node.Node.{Node}
@@ -12,7 +12,7 @@ use Rattle.pt_formula.specs.Forms.{IsIncreasing}
 use Rattle.pt_formula.specs.Formulas.{IsFormula, node_at, children}
 use Rattle.pt_formula.specs.Costs.{IsReached}
 use Rattle.pt_eval.specs.Levels.{above_all, level_below, level_of, row_of, total, IsPlanned, AreReached, AreClosed, AreOrdered, IsPlan}
-use Rattle.pt_eval.proofs.ReachLaws.{earlier-child, all-contains, contains-last, contains-front, contains-end, contains-at, contained-at, take-next}
+use Rattle.pt_eval.proofs.ReachLaws.{earlier-child, all-contains, contains-last, contains-front, contains-end, contains-at}
 
 -- ---- levels
 

@@ -1,16 +1,12 @@
 -- Outcomes in longer lists, of a level, and of all levels.
-use Rattle.std.proofs.Common.{◌≡◌, ◌≢◌, ◌⊎◌, inl, inr, ℕ, zero, suc, ◌+◌, ◌*◌, ◌<◌, ◌≤◌, List, [], ◌∷◌, ◌++◌, length, take, set, refl, ap, sym, subst, ◌∙◌, arith}
+use Rattle.std.proofs.Common.{◌≡◌, ◌≢◌, ◌⊎◌, inl, inr, ℕ, zero, suc, ◌+◌, ◌*◌, ◌<◌, ◌≤◌, List, [], ◌∷◌, length, take, refl, ap, sym, subst, ◌∙◌, arith}
 use Rattle.std.specs.Prelude.{slice_get, slice_index, slice_index_or, Some, ◌↔◌, ℤ}
 use Rattle.std.specs.List.{AllByRecursion}
 use Rattle.std.specs.Global.{Vec}
 use Rattle.std.proofs.lemmas.Bool.{cases_lt, cases_eq}
-use Rattle.std.proofs.lemmas.Grind.{common_steps}
-use Rattle.std.proofs.lemmas.List.{get_or-set_same, get_or-set_other}
 use Rattle.std.proofs.lemmas.Option.{slice_get-get_or}
 use Rattle.std.proofs.lemmas.List.Sums.{sum_by-cons, sum_by-take-le}
 use Rattle.std.proofs.Math.Nat.{mul-le-mul_left}
-use Rattle.std.proofs.Math.ListN.{get_or-append}
-use Rattle.std.proofs.Math.Seq.{get_or-append_seam}
 use Rattle.pt_sets.specs.Elements.{ContainsByRecursion}
 use Rattle.pt_sets.specs.Sets.{SameSet}
 use Rattle.pt_sets.specs.Lists.{Lists, Home, Extends}
@@ -29,7 +25,7 @@ use Rattle.pt_eval.specs.declared.outcome.Outcome.{Outcome}
 use Rattle.pt_eval.specs.declared.outcome.Outcome.TheVariants.{Pending, Known, Costly, LeftOut}
 use Rattle.pt_eval.specs.Faults.{of_store}
 use Rattle.pt_eval.specs.Evaluating.{IsCheap, HaveSolutions, KnowsReached, HaveFewResiduals, RefusesRoots}
-use Rattle.pt_eval.specs.Outcomes.{IsEvaluated, IsOutcome, IsSettled, IsResult, AreOutcomes, AreReady, AreResults, AreWritten, RefusesWhere, outcome_at, known, costly}
+use Rattle.pt_eval.specs.Outcomes.{IsEvaluated, IsOutcome, IsSettled, AreOutcomes, AreReady, AreResults, AreWritten, RefusesWhere, outcome_at, known, costly}
 use Rattle.pt_eval.specs.Levels.{row_of, row_items, total, IsPlanned, AreOrdered}
 use Rattle.pt_eval.proofs.CostLaws.{cost-excluded}
 use Rattle.pt_eval.proofs.ReachLaws.{below-reached, contains-at, contained-at}

@@ -10,8 +10,7 @@ use Rattle.pt_handles.specs.declared.fault.OpFault.{OpFault}
 use Rattle.pt_handles.specs.declared.fault.OpFault.TheVariants as op
 use Rattle.pt_formula.specs.declared.node.Node.{Node}
 use Rattle.pt_formula.specs.declared.node.Position.{Position}
-use Rattle.pt_formula.specs.Truth.{Solutions}
-use Rattle.pt_formula.specs.Formulas.{node_at, children, tree_of, variables_of}
+use Rattle.pt_formula.specs.Formulas.{node_at, children, tree_of}
 use Rattle.pt_formula.specs.Costs.{IsBelow, IsCostly, TreeCostWithin}
 use Rattle.pt_eval.specs.Evaluating.{IsCheap, HasSolutions, HasFewResiduals, LacksSolutions, IsFullAt}
 use Rattle.pt_eval.specs.declared.outcome.Outcome.{Outcome}

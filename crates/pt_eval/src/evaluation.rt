@@ -145,7 +145,6 @@ where
     let mut outcomes = HashMap::new(alloc);
     for row in rows {
         let level = Level {
-            rt,
             formula,
             bound,
             gate,

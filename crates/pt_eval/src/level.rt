@@ -18,15 +18,14 @@ use std::thread::Threads;
 /// Evaluation of the nodes of one level, whose children are done with. The gate is told right before and right after each
 /// node's work.
 #[derive(Drop)]
-pub(crate) struct Level<'a, G, R> {
-    pub rt: &'a R,
+pub(crate) struct Level<'a, G> {
     pub formula: &'a Formula,
     pub bound: u32,
     pub gate: &'a G,
     pub outcomes: &'a Outcomes,
 }
 
-impl<'a, G: Gate, R: Threads + Sync> Work for Level<'a, G, R> {
+impl<'a, G: Gate> Work for Level<'a, G> {
     type Answer = Outcome;
 
     type Kept = Operations;
@@ -41,8 +40,9 @@ impl<'a, G: Gate, R: Threads + Sync> Work for Level<'a, G, R> {
 
     ghost most = { λ l _. l.bound };
 
-    fn work<I: Interner>(
+    fn work<I: Interner, R: Threads + Sync>(
         &self,
+        rt: &R,
         alloc: Global,
         store: &I,
         pass: &mut I::Pass,
@@ -51,7 +51,7 @@ impl<'a, G: Gate, R: Threads + Sync> Work for Level<'a, G, R> {
     ) -> Result<Outcome, StoreFault> {
         self.gate.start(number);
         let outcome = evaluate_node(
-            self.rt,
+            rt,
             alloc,
             store,
             pass,

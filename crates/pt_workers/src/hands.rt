@@ -59,7 +59,8 @@ pub(crate) fn split_each<I: Sharing, M: Drop>(
 }
 
 /// Works on the numbers of a hand.
-fn work_hand<I: Interner, W: Work>(
+fn work_hand<I: Interner, W: Work, R: Threads + Sync>(
+    rt: &R,
     alloc: Global,
     store: &I,
     work: &W,
@@ -73,7 +74,7 @@ fn work_hand<I: Interner, W: Work>(
         mut kept,
         numbers,
     } = hand;
-    let told = work_through(alloc, store, &mut pass, work, &mut kept, &numbers);
+    let told = work_through(rt, alloc, store, &mut pass, work, &mut kept, &numbers);
     Report {
         pass,
         kept,
@@ -101,6 +102,6 @@ where
     let each = |hand: Hand<I::Pass, W::Kept>| -> Report<I::Pass, W::Kept, W::Answer>
         requires { IsReady (I.owns store.now) I.Pass.lists I.Pass.offered (W.good work.now I.Pass.home) (W.may_begin work.now I.Pass.home) hand }
         ensures { IsReportFor (I.owns store.entry.now) I.Pass.lists I.Pass.offered (W.good work.entry.now I.Pass.home) (I.limit_of store.entry.now) (W.gives work.entry.now I.Pass.home) (W.lacks work.entry.now I.Pass.home (I.limit_of store.entry.now)) (W.most work.entry.now) hand result }
-    { work_hand(alloc, store, work, hand) };
+    { work_hand(rt, alloc, store, work, hand) };
     thread::map_vec(rt, hands, &each)
 }

@@ -13,7 +13,8 @@ use std::alloc::Global;
 use std::thread::Threads;
 
 /// Works on numbers, one after another, on the caller's thread. Ends at the first that is refused.
-pub(crate) fn work_through<I: Interner, W: Work>(
+pub(crate) fn work_through<I: Interner, W: Work, R: Threads + Sync>(
+    rt: &R,
     alloc: Global,
     store: &I,
     pass: &mut I::Pass,
@@ -34,7 +35,7 @@ pub(crate) fn work_through<I: Interner, W: Work>(
     work.lasts();
     let mut told = Vec::new(alloc);
     for number in numbers {
-        let answer = match work.work(alloc, store, pass, kept, *number) {
+        let answer = match work.work(rt, alloc, store, pass, kept, *number) {
             Ok(answer) => answer,
             Err(fault) => return Err(fault),
         };
@@ -84,7 +85,7 @@ where
     work.lasts();
     let count = numbers.len().min(workers as usize);
     if count < 2 {
-        return work_through(alloc, store, pass, work, &mut kept[0], numbers);
+        return work_through(rt, alloc, store, pass, work, &mut kept[0], numbers);
     }
     let Ok(dealt) = deal(alloc, numbers, count) else {
         return Err(StoreFault::NoMemory);

@@ -9,6 +9,7 @@ use pt_store::{Codes, Interner, OneShard, SharedStore, Sharing, StoreFault};
 use std::alloc::{AllocError, Global};
 use std::sync::Arc;
 use std::test::Fail;
+use std::thread::Threads;
 
 // Doubles numbers.
 struct Doubles;
@@ -28,8 +29,9 @@ impl Work for Doubles {
 
     ghost most = { λ _ _. 0 };
 
-    fn work<I: Interner>(
+    fn work<I: Interner, R: Threads + Sync>(
         &self,
+        _rt: &R,
         _alloc: Global,
         _store: &I,
         _pass: &mut I::Pass,
@@ -64,8 +66,9 @@ impl Work for Interns {
 
     ghost most = { λ _ _. 1 };
 
-    fn work<I: Interner>(
+    fn work<I: Interner, R: Threads + Sync>(
         &self,
+        _rt: &R,
         alloc: Global,
         store: &I,
         pass: &mut I::Pass,

@@ -1,10 +1,12 @@
 // Work by number.
 ghost use Rattle.std.specs.Prelude.{ℕ, ◌+◌, ◌≤◌, IfOk, IfErr};
+ghost use Rattle.std.specs.Thread.{IsSync};
 ghost use Rattle.pt_sets.specs.Lists.{Lists, Home, Extends};
 ghost use Rattle.pt_workers.specs.Works.{RefusesOnly};
 
 use pt_store::{Codes, Interner, StoreFault};
 use std::alloc::Global;
+use std::thread::Threads;
 
 /// Work on things that have numbers. The work on one asks nothing of that on another, and all of it may be done at once.
 pub trait Work {
@@ -29,15 +31,17 @@ pub trait Work {
     /// How many codes the work on a number offers at most.
     ghost most: { Self → ℕ → ℕ };
 
-    /// Works on one number through a pass, with what the worker keeps.
-    fn work<I: Interner>(
+    /// Works on one number through a pass, with what the worker keeps. Threads share `rt`, which a trait has to ask for besides its bound.
+    fn work<I: Interner, R: Threads + Sync>(
         &self,
+        rt: &R,
         alloc: Global,
         store: &I,
         pass: &mut I::Pass,
         kept: &mut Self::Kept,
         number: u32,
     ) -> Result<Self::Answer, StoreFault>
+        requires sync { IsSync R.row }
         requires owned { I.owns store.now pass.old }
         requires good { good self.now I.Pass.home (I.Pass.lists pass.old) kept.old }
         requires may_begin { may_begin self.now I.Pass.home (I.Pass.lists pass.old) number }

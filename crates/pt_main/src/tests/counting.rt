@@ -156,7 +156,8 @@ impl<'a> Gate for Notes<'a> {
 fn a_run_works_on_the_store(rt: HostRuntime) -> Result<(), Fail> {
     let alloc = rt.alloc();
     let words = words_of(alloc, "--workers=1")?;
-    let script = b"(declare-const x Int)\n(declare-const y Int)\n(assert (= x 5))\n(assert (= y 3))\n(check-sat)\n".as_slice();
+    let script =
+        b"(declare-const x Int)\n(declare-const y Int)\n(assert (= x 5))\n(assert (= y 3))\n(check-sat)\n".as_slice();
     let mut source = MemSource::new(script.to_vec(alloc)?, 5, Vec::new(alloc));
     let mut sink = MemSink::new(alloc, 7, Vec::new(alloc))?;
     let (store, pass) = SharedStore::new(alloc, 1, 1000, OneShard)?;

@@ -1,4 +1,4 @@
-use Rattle.std.proofs.Common.{◌≡◌, ◌≢◌, ℕ, nat_eq, Some, ap}
+use Rattle.std.proofs.Common.{ap}
 use Rattle.std.specs.Prelude.{unwrap_or}
 use Rattle.pt_eval.specs.declared.outcome.Outcome.TheVariants.{Pending}
 use Rattle.pt_eval.specs.Outcomes.{outcome_in}

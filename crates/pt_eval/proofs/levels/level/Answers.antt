@@ -1,7 +1,7 @@
 use Rattle.std.proofs.Common.{◌≡◌, ◌+◌, ◌<◌, [], ◌∷◌, nat_eq, ap, sym, ◌∙◌, arith}
 use Rattle.std.specs.HashMap.{get}
 use Rattle.pt_formula.specs.Formulas.{children, node_at}
-use Rattle.pt_eval.specs.Levels.{listed, level_of}
+use Rattle.pt_eval.specs.Levels.{listed}
 use Rattle.pt_eval.proofs.LevelLaws.{one-level, two-levels}
 use Rattle.pt_eval.proofs.levels.level.Goals as goal
 

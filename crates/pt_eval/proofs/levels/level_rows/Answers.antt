@@ -4,7 +4,7 @@ use Rattle.std.specs.HashMap.{get}
 use Rattle.std.proofs.lemmas.List.{take_all}
 use Rattle.pt_eval.specs.Levels.{level_of, row_of}
 use Rattle.pt_eval.proofs.ReachLaws.{contains-at, take-next}
-use Rattle.pt_eval.proofs.LevelLaws.{IsPlanning, front-less, children-known, level-near, planning-begins, planning-goes-on, planning-ends, get-apart}
+use Rattle.pt_eval.proofs.LevelLaws.{IsPlanning, front-less, children-known, level-near, planning-goes-on, planning-ends, get-apart}
 use Rattle.pt_eval.proofs.levels.level_rows.Goals as goal
 
 pub level-own-requires-clause-inside : goal.level-own-requires-clause-inside

@@ -1,4 +1,3 @@
-use Rattle.std.proofs.Common.{◌≡◌}
 use Rattle.pt_eval.specs.Outcomes.{outcome_in}
 use Rattle.pt_eval.proofs.ToldLaws.{begins-longer, result-longer, lacks-longer}
 use Rattle.pt_eval.proofs.level.LevelWork.lasts.Goals as goal
