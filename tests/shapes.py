@@ -76,7 +76,7 @@ def terms():
     text = filled(b"(assert (exists (", b"(x Int)", b") true))(check-sat)")
     yield "one quantifier of many variables", text, b"sat\n", DONE
     text = numbered(b"(define-fun f (", b"(n% Int)", b") Bool true)(set-empty f)")
-    yield "one definition of many parameters", text, refused(text, b"f)", b"more than 8 variables"), REFUSED
+    yield "one definition of many parameters", text, refused(text, b"f)", b"more than 10 variables"), REFUSED
     most = b"(assert (or " + b"false " * (MOST_NODES // 2) + b"))(check-sat)"
     yield "65,536 nodes", padded(most), b"unsat\n", DONE
     head = b"(assert (or "

@@ -28,9 +28,9 @@ zero_is_solution = (refl, (pos 5, (refl, refl)))
 not_free : made_exists 7 3 here nodes ≡ Ok (3, nodes)
 not_free = refl
 
--- an atom of nine variables is refused
-nine : made (Atom Le ((0, pos 1) ∷ (1, pos 1) ∷ (2, pos 1) ∷ (3, pos 1) ∷ (4, pos 1) ∷ (5, pos 1) ∷ (6, pos 1) ∷ (7, pos 1) ∷ (8, pos 1) ∷ []) (pos 0)) here start ≡ Err (Tracks here)
-nine = refl
+-- an atom of eleven variables is refused
+eleven : made (Atom Le ((0, pos 1) ∷ (1, pos 1) ∷ (2, pos 1) ∷ (3, pos 1) ∷ (4, pos 1) ∷ (5, pos 1) ∷ (6, pos 1) ∷ (7, pos 1) ∷ (8, pos 1) ∷ (9, pos 1) ∷ (10, pos 1) ∷ []) (pos 0)) here start ≡ Err (Tracks here)
+eleven = refl
 
 -- the letter 1 1 0, from track 0 on, without track 1 is 1 0
 letter : without_track 1 3 ≡ 1

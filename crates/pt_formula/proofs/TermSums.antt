@@ -362,19 +362,19 @@ module _ (ts xs : List Monomial) (c k z : ℤ) (b : Form) (made : (xs ≡ sum_te
   all_fit : fits_form (combined_form ts c k b) ≡ true
   all_fit = form_fits (sum_terms ts (scale_terms k b.terms)) (c +ℤ k *ℤ b.constant) made.1 (ap fits (sym sum) ∙ small)
 
-  pub too_many : 8 < length xs → (fits_form (combined_form ts c k b) ≡ true) × (has_few_terms (combined_form ts c k b) ≡ false)
+  pub too_many : 10 < length xs → (fits_form (combined_form ts c k b) ≡ true) × (has_few_terms (combined_form ts c k b) ≡ false)
   too_many h =
-      let many : nat_le (length xs) 8 ≡ false = grind (arith, nat_tests) in
-      (all_fit, ap (λ s. nat_le (length s) 8) (sym made.0) ∙ many)
+      let many : nat_le (length xs) 10 ≡ false = grind (arith, nat_tests) in
+      (all_fit, ap (λ s. nat_le (length s) 10) (sym made.0) ∙ many)
 
-  pub form_made : AreTerms b.terms → length xs ≤ 8 → (form_of xs z ≡ combined_form ts c k b) × IsForm (combined_form ts c k b)
+  pub form_made : AreTerms b.terms → length xs ≤ 10 → (form_of xs z ≡ combined_form ts c k b) × IsForm (combined_form ts c k b)
   form_made h p =
-      let few : nat_le (length xs) 8 ≡ true = grind (arith, nat_tests) in
+      let few : nat_le (length xs) 10 ≡ true = grind (arith, nat_tests) in
       let same : form_of xs z ≡ combined_form ts c k b = ap (λ s. form_of s z) made.0 ∙ ap (form_of (sum_terms ts (scale_terms k b.terms))) sum in (
         same,
         record {
           terms = combined_terms ts b.terms k h;
-          few = ap (λ s. nat_le (length s) 8) (sym made.0) ∙ few;
+          few = ap (λ s. nat_le (length s) 10) (sym made.0) ∙ few;
           small = all_fit;
         },
       )

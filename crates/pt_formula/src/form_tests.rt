@@ -68,9 +68,9 @@ fn numbers_of_more_than_64_bits_are_refused(rt: HostRuntime) -> Result<(), Fail>
 }
 
 #[test]
-fn nine_terms_are_refused(rt: HostRuntime) -> Result<(), Fail> {
+fn eleven_terms_are_refused(rt: HostRuntime) -> Result<(), Fail> {
     let alloc = rt.alloc();
-    let eight = form(
+    let ten = form(
         alloc,
         &[
             (0, 1),
@@ -81,13 +81,15 @@ fn nine_terms_are_refused(rt: HostRuntime) -> Result<(), Fail> {
             (5, 1),
             (6, 1),
             (7, 1),
+            (8, 1),
+            (9, 1),
         ],
         MAX,
     )?;
-    let ninth = form(alloc, &[(8, 1)], 0)?;
-    let and_one = form(alloc, &[(8, 1)], 1)?;
-    assert!(rt; sum(alloc, &eight, &ninth).err() == Some(FormFault::Tracks));
-    assert!(rt; sum(alloc, &eight, &and_one).err() == Some(FormFault::Coefficient));
-    assert!(rt; difference(alloc, &eight, &eight).is_ok());
+    let eleventh = form(alloc, &[(10, 1)], 0)?;
+    let and_one = form(alloc, &[(10, 1)], 1)?;
+    assert!(rt; sum(alloc, &ten, &eleventh).err() == Some(FormFault::Tracks));
+    assert!(rt; sum(alloc, &ten, &and_one).err() == Some(FormFault::Coefficient));
+    assert!(rt; difference(alloc, &ten, &ten).is_ok());
     Ok(())
 }

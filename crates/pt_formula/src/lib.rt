@@ -29,7 +29,7 @@ pub type Var = u32;
 pub type NodeId = u32;
 
 /// How many variables a form may have, and how many may be free in a node.
-pub const MAX_TRACKS: usize = 8;
+pub const MAX_TRACKS: usize = 10;
 
 /// How many nodes a formula may have.
 pub const MAX_NODES: usize = 65536;

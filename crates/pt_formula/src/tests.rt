@@ -5,8 +5,8 @@ use std::test::Fail;
 
 const HERE: Position = Position { line: 3, column: 5 };
 
-// The variables of nine terms, the last one left out where there are to be eight.
-const NINE: [(Var, i64); 9] = [
+// The variables of eleven terms, the last one left out where there are to be ten.
+const ELEVEN: [(Var, i64); 11] = [
     (0, 1),
     (1, 1),
     (2, 1),
@@ -16,6 +16,8 @@ const NINE: [(Var, i64); 9] = [
     (6, 1),
     (7, 1),
     (8, 1),
+    (9, 1),
+    (10, 1),
 ];
 
 // Two nodes joined, or node 0 where one of them is not there.
@@ -65,19 +67,19 @@ fn variables_are_merged_and_bound(rt: HostRuntime) -> Result<(), Fail> {
 }
 
 #[test]
-fn nine_variables_and_too_many_nodes_are_refused(rt: HostRuntime) -> Result<(), Fail> {
+fn eleven_variables_and_too_many_nodes_are_refused(rt: HostRuntime) -> Result<(), Fail> {
     let alloc = rt.alloc();
     let tracks = Some(FormulaFault::Tracks { position: HERE });
     let mut formula = Formula::new(alloc)?;
-    let nine = formula.atom(alloc, Kind::Le, &NINE, 0, HERE).err();
-    assert!(rt; nine == tracks && formula.len() == 1);
+    let eleven = formula.atom(alloc, Kind::Le, &ELEVEN, 0, HERE).err();
+    assert!(rt; eleven == tracks && formula.len() == 1);
     assert!(rt; formula.atom(alloc, Kind::Le, &[(4, 1)], 0, HERE)? == 1);
     for _ in 2..65536 {
         let _ = formula.truth(alloc, true, HERE)?;
     }
     let last = formula.truth(alloc, true, HERE).err();
-    let nine_at_the_end = formula.atom(alloc, Kind::Le, &NINE, 0, HERE).err();
-    assert!(rt; last == Some(FormulaFault::Nodes) && nine_at_the_end == tracks);
+    let eleven_at_the_end = formula.atom(alloc, Kind::Le, &ELEVEN, 0, HERE).err();
+    assert!(rt; last == Some(FormulaFault::Nodes) && eleven_at_the_end == tracks);
     assert!(rt; bind(&mut formula, alloc, 7, 1)? == 1 && formula.len() == 65536);
     Ok(())
 }

@@ -100,8 +100,8 @@ fn terms_are_forms_with_their_definitions(rt: HostRuntime) -> Result<(), Fail> {
     Ok(())
 }
 
-// The sum of the variables 1 to 8.
-fn eight(alloc: Global) -> Result<Form, NoMemory>
+// The sum of the variables 1 to 10.
+fn ten(alloc: Global) -> Result<Form, NoMemory>
     ensures form { IfOk result IsForm }
     ensures other { IfOk result (λ f. names 0 f ≡ false) }
 {
@@ -116,6 +116,8 @@ fn eight(alloc: Global) -> Result<Form, NoMemory>
             (6, 1),
             (7, 1),
             (8, 1),
+            (9, 1),
+            (10, 1),
         ],
     )?;
     Ok(Form {
@@ -126,24 +128,24 @@ fn eight(alloc: Global) -> Result<Form, NoMemory>
 
 type Refusals = (Option<TermFault>, Option<TermFault>, Option<TermFault>);
 
-// The refusals of variable 0 as the quotient, the remainder and the absolute value of a sum of eight variables.
+// The refusals of variable 0 as the quotient, the remainder and the absolute value of a sum of ten variables.
 fn wide(formula: &mut Formula, alloc: Global, n: i64) -> Result<Refusals, TermFault>
     requires { n ≢ pos 0 }
 {
-    let a = eight(alloc)?;
+    let a = ten(alloc)?;
     let quotient = divide(formula, alloc, 0, &a, n, HERE).err();
     let rest = remainder(formula, alloc, 0, &a, n, HERE).err();
     let absolute = magnitude(formula, alloc, 0, &a, HERE).err();
     Ok((quotient, rest, absolute))
 }
 
-// The refusals of a node over the variables 1 to 8: where a choice of variable 0 is made by it, and where it is closed by a definition of
+// The refusals of a node over the variables 1 to 10: where a choice of variable 0 is made by it, and where it is closed by a definition of
 // variable 1 over variable 0.
 fn crowded(
     formula: &mut Formula,
     alloc: Global,
 ) -> Result<(Option<TermFault>, Option<TermFault>), TermFault> {
-    let a = eight(alloc)?;
+    let a = ten(alloc)?;
     let number = form_of_number(alloc, 0);
     let body = compare(formula, alloc, Relation::Equal, &a, &number, HERE)?;
     if is_free(formula, 0, body) {
@@ -191,7 +193,7 @@ fn numbers_of_more_than_64_bits_are_refused(rt: HostRuntime) -> Result<(), Fail>
 }
 
 #[test]
-fn nine_variables_and_too_many_nodes_are_refused(rt: HostRuntime) -> Result<(), Fail> {
+fn eleven_variables_and_too_many_nodes_are_refused(rt: HostRuntime) -> Result<(), Fail> {
     let alloc = rt.alloc();
     let coefficient = Some(TermFault::Coefficient);
     let tracks = Some(TermFault::Tracks { position: HERE });

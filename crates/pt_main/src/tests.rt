@@ -158,10 +158,10 @@ fn limits_of_numbers_and_states(rt: HostRuntime) -> Result<(), Fail> {
     let alloc = rt.alloc();
     let thousand = "(declare-const x Int)\n(assert (= x 1000))\n(check-sat)\n";
     let skipped = "(declare-const x Int)\n(assert (and false (= x 1000)))\n(check-sat)\n";
-    let nine =
-        "(declare-const a Int)\n(declare-const b Int)\n(declare-const c Int)\n(declare-const d Int)\n(declare-const e Int)\n(declare-const f Int)\n(declare-const g Int)\n(declare-const h Int)\n(declare-const i Int)\n(assert (= (+ a b c d e f g h i) 0))\n";
-    let eight =
-        "(declare-const a Int)\n(declare-const b Int)\n(declare-const c Int)\n(declare-const d Int)\n(declare-const e Int)\n(declare-const f Int)\n(declare-const g Int)\n(declare-const h Int)\n(declare-const i Int)\n(assert (= (+ a b c d e f g h) 0))\n(check-sat)\n";
+    let eleven =
+        "(declare-const a Int)\n(declare-const b Int)\n(declare-const c Int)\n(declare-const d Int)\n(declare-const e Int)\n(declare-const f Int)\n(declare-const g Int)\n(declare-const h Int)\n(declare-const i Int)\n(declare-const j Int)\n(declare-const k Int)\n(assert (= (+ a b c d e f g h i j k) 0))\n";
+    let ten =
+        "(declare-const a Int)\n(declare-const b Int)\n(declare-const c Int)\n(declare-const d Int)\n(declare-const e Int)\n(declare-const f Int)\n(declare-const g Int)\n(declare-const h Int)\n(declare-const i Int)\n(declare-const j Int)\n(declare-const k Int)\n(assert (= (+ a b c d e f g h i j) 0))\n(check-sat)\n";
     for (words, script, output) in [
         ("--states=12", thousand, "sat\n"),
         (
@@ -185,8 +185,8 @@ fn limits_of_numbers_and_states(rt: HostRuntime) -> Result<(), Fail> {
             "(declare-const x Int)\n(assert (<= (* 9223372036854775807 x) 9223372036854775808))(check-sat)(get-value (x))",
             "(error \"2:39: coefficient outside 64 bits\")\n",
         ),
-        ("", nine, "(error \"10:12: more than 8 variables\")\n"),
-        ("", eight, "sat\n"),
+        ("", eleven, "(error \"12:12: more than 10 variables\")\n"),
+        ("", ten, "sat\n"),
     ] {
         expect(&rt, alloc, words, script, output)?;
     }

@@ -263,7 +263,7 @@ fn text_of(kind: ReadKind) -> &'static [u8]
         ReadKind::Unsupported => b"unsupported",
         ReadKind::Redeclared => b"name already in use",
         ReadKind::Depth => b"nesting over 256",
-        ReadKind::Tracks => b"more than 8 variables",
+        ReadKind::Tracks => b"more than 10 variables",
         ReadKind::Nodes => b"more than 65536 nodes",
         ReadKind::Logic => b"logic not supported",
         ReadKind::NoMemory => b"",

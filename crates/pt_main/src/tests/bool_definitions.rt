@@ -299,13 +299,13 @@ const REFUSED: [(&str, &str, &str); 32] = [
     ),
     (
         "",
-        "(define-fun f ((a Bool) (b Bool) (c Bool) (d Bool) (e Bool) (g Bool) (h Bool) (i Bool) (j Bool)) Bool true)\n(set-finite f)",
-        "(error \"2:13: more than 8 variables\")\n",
+        "(define-fun f ((a Bool) (b Bool) (c Bool) (d Bool) (e Bool) (g Bool) (h Bool) (i Bool) (j Bool) (k Bool) (l Bool)) Bool true)\n(set-finite f)",
+        "(error \"2:13: more than 10 variables\")\n",
     ),
     (
         "",
-        "(declare-const a Bool)(declare-const b Bool)(declare-const c Bool)(declare-const d Bool)(declare-const e Bool)(declare-const f Bool)(declare-const g Bool)(declare-const h Bool)(declare-const i Bool)\n(assert (and a b c d e f g h))\n(assert (xor a b c d e f g h i))",
-        "(error \"3:9: more than 8 variables\")\n",
+        "(declare-const a Bool)(declare-const b Bool)(declare-const c Bool)(declare-const d Bool)(declare-const e Bool)(declare-const f Bool)(declare-const g Bool)(declare-const h Bool)(declare-const i Bool)(declare-const j Bool)(declare-const k Bool)\n(assert (and a b c d e f g h i j))\n(assert (xor a b c d e f g h i j k))",
+        "(error \"3:9: more than 10 variables\")\n",
     ),
 ];
 

@@ -1,5 +1,5 @@
 //! Numbers and sorts of arguments, and what cannot be made of them.
-use super::outline::{NINE, refuse_all, refuse_all_behind};
+use super::outline::{ELEVEN, refuse_all, refuse_all_behind};
 use std::test::Fail;
 
 /// Texts, each with the refusal that ends it.
@@ -204,56 +204,59 @@ fn refusals_of_making(rt: HostRuntime) -> Result<(), Fail> {
 
 /// Texts, each with the refusal that ends it.
 const REFUSALS_OF_TRACKS: [(&str, &str); 17] = [
-    ("(assert (= (+ a b c d e f g h i) 0))", " Tracks 2:12"),
+    ("(assert (= (+ a b c d e f g h i j k) 0))", " Tracks 2:12"),
     (
-        "(assert (= (+ a b c d e f g h) 0))\n(assert (= i 0))",
+        "(assert (= (+ a b c d e f g h i j) 0))\n(assert (= k 0))",
         " Tracks 3:1",
     ),
-    ("(assert (= (+ a b c d e f g h i (- i)) 0))", " Tracks 2:12"),
-    ("(assert (= (- a b c d e f g h i) 0))", " Tracks 2:12"),
-    ("(assert (= (+ a b c d e) (+ f g h i)))", " Tracks 2:9"),
-    ("(assert (< (+ a b c d e) (+ f g h i)))", " Tracks 2:9"),
-    ("(assert (>= (+ a b c d e) (+ f g h i)))", " Tracks 2:9"),
     (
-        "(assert (distinct (+ a b c d e) (+ f g h i)))",
+        "(assert (= (+ a b c d e f g h i j k (- k)) 0))",
+        " Tracks 2:12",
+    ),
+    ("(assert (= (- a b c d e f g h i j k) 0))", " Tracks 2:12"),
+    ("(assert (= (+ a b c d e) (+ f g h i j k)))", " Tracks 2:9"),
+    ("(assert (< (+ a b c d e) (+ f g h i j k)))", " Tracks 2:9"),
+    ("(assert (>= (+ a b c d e) (+ f g h i j k)))", " Tracks 2:9"),
+    (
+        "(assert (distinct (+ a b c d e) (+ f g h i j k)))",
         " Tracks 2:9",
     ),
     (
-        "(assert (and (= (+ a b c d) 0) (= (+ e f g h i) 0)))",
+        "(assert (and (= (+ a b c d) 0) (= (+ e f g h i j k) 0)))",
         " Tracks 2:9",
     ),
     (
-        "(assert (not (or (= (+ a b c d) 0) (= (+ e f g h i) 0))))",
+        "(assert (not (or (= (+ a b c d) 0) (= (+ e f g h i j k) 0))))",
         " Tracks 2:14",
     ),
     (
-        "(assert (= (= (+ a b c d) 0) (= (+ e f g h i) 0)))",
+        "(assert (= (= (+ a b c d) 0) (= (+ e f g h i j k) 0)))",
         " Tracks 2:9",
     ),
     (
-        "(assert (xor (= (+ a b c d) 0) (= (+ e f g h i) 0)))",
+        "(assert (xor (= (+ a b c d) 0) (= (+ e f g h i j k) 0)))",
         " Tracks 2:9",
     ),
     (
-        "(assert (=> (= (+ a b c d) 0) (= (+ e f g h i) 0)))",
+        "(assert (=> (= (+ a b c d) 0) (= (+ e f g h i j k) 0)))",
         " Tracks 2:9",
     ),
     (
-        "(assert (ite (= (+ a b c d) 0) true (= (+ e f g h i) 0)))",
+        "(assert (ite (= (+ a b c d) 0) true (= (+ e f g h i j k) 0)))",
         " Tracks 2:9",
     ),
-    ("(assert (= a b c d e f g h i))", " Tracks 2:9"),
+    ("(assert (= a b c d e f g h i j k))", " Tracks 2:9"),
     (
-        "(assert (exists ((a Int)) (= (+ a b c d e) (+ f g h i))))",
+        "(assert (exists ((a Int)) (= (+ a b c d e) (+ f g h i j k))))",
         " Tracks 2:27",
     ),
     (
-        "(assert (= (+ a b c d e (- (- 9223372036854775807) 1)) (+ f g h i 1)))",
+        "(assert (= (+ a b c d e (- (- 9223372036854775807) 1)) (+ f g h i j k 1)))",
         " Coefficient 2:9",
     ),
 ];
 
 #[test]
 fn refusals_of_tracks(rt: HostRuntime) -> Result<(), Fail> {
-    refuse_all_behind(&rt, rt.alloc(), NINE, &REFUSALS_OF_TRACKS)
+    refuse_all_behind(&rt, rt.alloc(), ELEVEN, &REFUSALS_OF_TRACKS)
 }

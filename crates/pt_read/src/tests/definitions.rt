@@ -166,16 +166,16 @@ const REFUSALS_OF_MAKING_A_COPY: [(&str, &str); 9] = [
         " Coefficient 3:14",
     ),
     (
-        "(define-fun f ((k Int) (l Int)) Int (+ k l))\n(declare-const a Int)(declare-const b Int)(declare-const c Int)\n(declare-const d Int)(declare-const e Int)(declare-const g Int)\n(declare-const h Int)(declare-const i Int)(declare-const j Int)\n(assert (= (f (+ a b c d e) (+ g h i j)) 0))",
-        " Tracks 5:12",
+        "(define-fun f ((k Int) (l Int)) Int (+ k l))\n(declare-const a Int)(declare-const b Int)(declare-const c Int)\n(declare-const d Int)(declare-const e Int)(declare-const g Int)\n(declare-const h Int)(declare-const i Int)(declare-const j Int)\n(declare-const m Int)(declare-const n Int)\n(assert (= (f (+ a b c d e) (+ g h i j m n)) 0))",
+        " Tracks 6:12",
     ),
     (
-        "(define-fun p ((k Int) (l Int)) Bool (= k l))\n(declare-const a Int)(declare-const b Int)(declare-const c Int)\n(declare-const d Int)(declare-const e Int)(declare-const g Int)\n(declare-const h Int)(declare-const i Int)(declare-const j Int)\n(assert (p (+ a b c d e) (+ g h i j)))",
-        " Tracks 5:9",
+        "(define-fun p ((k Int) (l Int)) Bool (= k l))\n(declare-const a Int)(declare-const b Int)(declare-const c Int)\n(declare-const d Int)(declare-const e Int)(declare-const g Int)\n(declare-const h Int)(declare-const i Int)(declare-const j Int)\n(declare-const m Int)(declare-const n Int)\n(assert (p (+ a b c d e) (+ g h i j m n)))",
+        " Tracks 6:9",
     ),
     (
-        "(define-fun p ((k Int) (l Int)) Bool (and (= k 1) (= l 2)))\n(declare-const a Int)(declare-const b Int)(declare-const c Int)\n(declare-const d Int)(declare-const e Int)(declare-const g Int)\n(declare-const h Int)(declare-const i Int)(declare-const j Int)\n(assert (p (+ a b c d e) (+ g h i j)))",
-        " Tracks 5:9",
+        "(define-fun p ((k Int) (l Int)) Bool (and (= k 1) (= l 2)))\n(declare-const a Int)(declare-const b Int)(declare-const c Int)\n(declare-const d Int)(declare-const e Int)(declare-const g Int)\n(declare-const h Int)(declare-const i Int)(declare-const j Int)\n(declare-const m Int)(declare-const n Int)\n(assert (p (+ a b c d e) (+ g h i j m n)))",
+        " Tracks 6:9",
     ),
 ];
 

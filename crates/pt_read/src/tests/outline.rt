@@ -13,9 +13,9 @@ pub(crate) const LIMIT: usize = 4_194_304;
 pub(crate) const DEFINITIONS: &str =
     "(define-fun f ((a Int) (b Int)) Int (+ a b))\n(define-fun p ((a Int)) Bool (> a 0))\n(define-fun c () Int 5)\n";
 
-/// Nine constants, on one line.
-pub(crate) const NINE: &str =
-    "(declare-const a Int)(declare-const b Int)(declare-const c Int)(declare-const d Int)(declare-const e Int)(declare-const f Int)(declare-const g Int)(declare-const h Int)(declare-const i Int)\n";
+/// Eleven constants, on one line.
+pub(crate) const ELEVEN: &str =
+    "(declare-const a Int)(declare-const b Int)(declare-const c Int)(declare-const d Int)(declare-const e Int)(declare-const f Int)(declare-const g Int)(declare-const h Int)(declare-const i Int)(declare-const j Int)(declare-const k Int)\n";
 
 fn write_place(alloc: Global, out: &mut Vec<u8>, at: Position) -> Result<(), AllocError> {
     let place = format!(in alloc; " {}:{}", at.line, at.column)?;

@@ -12,7 +12,7 @@ const REFUSALS_OF_SETS: [(&str, &str); 38] = [
         " Unsupported 3:12",
     ),
     (
-        "(define-fun q ((a0 Int) (a1 Int) (a2 Int) (a3 Int) (a4 Int) (a5 Int) (a6 Int) (a7 Int) (a8 Int)) Bool true)\n(set-empty q)",
+        "(define-fun q ((a0 Int) (a1 Int) (a2 Int) (a3 Int) (a4 Int) (a5 Int) (a6 Int) (a7 Int) (a8 Int) (a9 Int) (a10 Int)) Bool true)\n(set-empty q)",
         " Tracks 2:12",
     ),
     ("(set-empty)", " Syntax 1:1"),
@@ -89,23 +89,23 @@ const RULES_OF_SETS: [(&str, &str); 21] = [
         " Unsupported 3:11",
     ),
     (
-        "(define-fun q ((a Int) (b Int) (c Int) (d Int) (e Int) (f Int) (g Int) (h Int) (i Int)) Int i)\n(set-finite q)",
+        "(define-fun q ((a Int) (b Int) (c Int) (d Int) (e Int) (f Int) (g Int) (h Int) (i Int) (j Int) (k Int)) Int i)\n(set-finite q)",
         " Sort 2:13",
     ),
     (
-        "(declare-const x Int)\n(define-fun q ((a Int) (b Int) (c Int) (d Int) (e Int) (f Int) (g Int) (h Int) (i Int)) Bool (= x i))\n(set-finite q)",
+        "(declare-const x Int)\n(define-fun q ((a Int) (b Int) (c Int) (d Int) (e Int) (f Int) (g Int) (h Int) (i Int) (j Int) (k Int)) Bool (= x i))\n(set-finite q)",
         " Unsupported 3:13",
     ),
     (
-        "(define-fun q ((a Int) (b Int) (c Int) (d Int) (e Int) (f Int) (g Int) (h Int) (i Int)) Bool true)\n(set-member q 1)",
+        "(define-fun q ((a Int) (b Int) (c Int) (d Int) (e Int) (f Int) (g Int) (h Int) (i Int) (j Int) (k Int)) Bool true)\n(set-member q 1)",
         " Tracks 2:13",
     ),
     (
-        "(define-fun q ((a Int) (b Int) (c Int) (d Int) (e Int) (f Int) (g Int) (h Int) (i Int)) Bool true)\n(set-equal q r)",
+        "(define-fun q ((a Int) (b Int) (c Int) (d Int) (e Int) (f Int) (g Int) (h Int) (i Int) (j Int) (k Int)) Bool true)\n(set-equal q r)",
         " Tracks 2:12",
     ),
     (
-        "(define-fun q ((a Int) (b Int) (c Int) (d Int) (e Int) (f Int) (g Int) (h Int) (i Int)) Bool true)\n(define-fun t () Bool true)\n(set-subset t q)",
+        "(define-fun q ((a Int) (b Int) (c Int) (d Int) (e Int) (f Int) (g Int) (h Int) (i Int) (j Int) (k Int)) Bool true)\n(define-fun t () Bool true)\n(set-subset t q)",
         " Tracks 3:15",
     ),
 ];
