@@ -1,84 +1,119 @@
 -- Levels of nodes, and lists of the nodes of each level.
-use Rattle.std.proofs.Common.{◌≡◌, ◌≢◌, inl, inr, ℕ, zero, suc, ◌+◌, ◌<◌, ◌≤◌, Bool, List, [], ◌∷◌, ◌++◌, length, map, refl, ap, sym, subst, ◌∙◌, arith}
-use Rattle.std.specs.Prelude.{slice_index}
+use Rattle.std.proofs.Common.{◌≡◌, ◌≢◌, inl, inr, ℕ, zero, suc, ◌+◌, ◌<◌, ◌≤◌, List, [], ◌∷◌, ◌++◌, length, map, take, Option, Some, refl, ap, sym, subst, ◌∙◌, arith}
+use Rattle.std.specs.Prelude.{false, max, nat_eq, slice_index}
 use Rattle.std.specs.List.{AllByRecursion}
 use Rattle.std.specs.Global.{Vec}
-use Rattle.std.proofs.lemmas.Bool.{cases_lt, cases_eq}
+use Rattle.std.proofs.lemmas.Bool.{cases_eq}
 use Rattle.std.proofs.lemmas.Grind.{common_steps}
-use Rattle.std.proofs.lemmas.List.{get_or_past}
-use Rattle.std.proofs.Math.ListN.{get_or-append}
-use Rattle.std.proofs.Math.Seq.{get_or-append_seam}
 use Rattle.pt_sets.specs.Elements.{ContainsByRecursion}
 use Rattle.pt_formula.specs.declared.node.Node.{Node}
 use Rattle.pt_formula.specs.declared.node.Position.{Position}
 use Rattle.pt_formula.specs.Forms.{IsIncreasing}
 use Rattle.pt_formula.specs.Formulas.{IsFormula, node_at, children}
 use Rattle.pt_formula.specs.Costs.{IsReached}
-use Rattle.pt_eval.specs.Levels.{IsMarked, AreMarks, above_all, AreLevels, row_of, total, AreRows, IsPlanned, AreOrdered, IsPlan}
-use Rattle.pt_eval.proofs.MarkLaws.{marked-inside, child-reached, contains-last, contains-front, contains-end}
+use Rattle.pt_eval.specs.Levels.{above_all, level_below, level_of, row_of, total, IsPlanned, AreReached, AreClosed, AreOrdered, IsPlan}
+use Rattle.pt_eval.proofs.ReachLaws.{earlier-child, all-contains, contains-last, contains-front, contains-end, contains-at}
 
 -- ---- levels
 
-map-front : (xs : List ℕ) (y : ℕ) (cs : List ℕ) → AllByRecursion (λ c. c < length xs) cs → map (slice_index (xs ++ y ∷ [])) cs ≡ map (slice_index xs) cs
-map-front xs y [] below = refl
-map-front xs y (c ∷ cs) below = ap (λ (n : ℕ). n ∷ map (slice_index (xs ++ y ∷ [])) cs) (get_or-append xs (y ∷ []) 0 c below.0) ∙ ap (λ (ns : List ℕ). slice_index xs c ∷ ns) (map-front xs y cs below.1)
+-- levels by two measures of depth agree where both are great enough
+map-same : (g h : ℕ → ℕ) (cs : List ℕ) → ((c : ℕ) → ContainsByRecursion c cs → g c ≡ h c) → map g cs ≡ map h cs
+map-same g h [] same = refl
+map-same g h (c ∷ cs) same = ap (λ (n : ℕ). n ∷ map g cs) (same c (inl refl)) ∙ ap (λ (ns : List ℕ). h c ∷ ns) (map-same g h cs (λ d found. same d (inr found)))
 
-pub all-below : (m n : ℕ) → m ≤ n → (cs : List ℕ) → AllByRecursion (λ c. c < m) cs → AllByRecursion (λ c. c < n) cs
-all-below m n le [] below = tt
-all-below m n le (c ∷ cs) below = (let lt : c < m = below.0 in omega arith, all-below m n le cs below.1)
+deep-enough : (f : List (Node × Position)) → IsFormula f → (n m i : ℕ) → i < n → i < m → level_below n f i ≡ level_below m f i
+deep-enough f is zero m i lt lower = absurd (omega arith)
+deep-enough f is (suc n) zero i lt lower = absurd (omega arith)
+deep-enough f is (suc n) (suc m) i lt lower =
+    ap above_all (map-same (level_below n f) (level_below m f) (children (node_at f i)) (λ c child. (let earlier = earlier-child f is i c child in deep-enough f is n m c (omega arith) (omega arith))))
 
-above-small : (xs : List ℕ) (n : ℕ) (cs : List ℕ) → AllByRecursion (λ c. c < n) cs → ((i : ℕ) → slice_index xs i ≤ i) → above_all (map (slice_index xs) cs) ≤ n
-above-small xs n [] below small = omega arith
-above-small xs n (c ∷ cs) below small =
-    let lt : c < n = below.0 in
-    let first = small c in
-    let rest = above-small xs n cs below.1 small in
-    omega arith
+-- the level of a node from those of its children
+pub level-children : (f : List (Node × Position)) → IsFormula f → (i : ℕ) → level_of f i ≡ above_all (map (level_of f) (children (node_at f i)))
+level-children f is i = ap above_all (map-same (level_below i f) (level_of f) (children (node_at f i)) (λ c child. (let earlier = earlier-child f is i c child in deep-enough f is i (suc c) c earlier (omega arith))))
 
-pub above-each : (xs cs : List ℕ) (c : ℕ) → ContainsByRecursion c cs → slice_index xs c < above_all (map (slice_index xs) cs)
-above-each xs [] c none = absurd none
-above-each xs (d ∷ cs) c (inl same) = let e = ap (slice_index xs) same in omega (arith, e)
-above-each xs (d ∷ cs) c (inr more) = let rest = above-each xs cs c more in omega (arith, rest)
+above-each : (g : ℕ → ℕ) (cs : List ℕ) (c : ℕ) → ContainsByRecursion c cs → g c < above_all (map g cs)
+above-each g [] c none = absurd none
+above-each g (d ∷ cs) c (inl same) = let e = ap g same in omega (arith, e)
+above-each g (d ∷ cs) c (inr more) = let rest = above-each g cs c more in omega (arith, rest)
 
-pub levels-none : (f : List (Node × Position)) → AreLevels f 0 []
-levels-none f = record { count = refl; each = λ i lt. absurd (omega arith) }
+above-most : (g : ℕ → ℕ) (cs : List ℕ) (n : ℕ) → ((c : ℕ) → ContainsByRecursion c cs → g c < n) → above_all (map g cs) ≤ n
+above-most g [] n below = omega arith
+above-most g (c ∷ cs) n below = let first = below c (inl refl) in let rest = above-most g cs n (λ d found. below d (inr found)) in omega (arith, first, rest)
 
-pub levels-more : (f : List (Node × Position)) → IsFormula f → (n : ℕ) → n < length f → (levels : List ℕ) (next : ℕ) → next ≡ above_all (map (slice_index levels) (children (node_at f n))) → AreLevels f n levels → AreLevels f (n + 1) (levels ++ next ∷ [])
-levels-more f is n inside levels next value so_far = record {
-  count = (let c = so_far.count in grind (arith, common_steps));
-  each = λ i lt. elim (cases_lt i n) [ inl before ↦ old i before | inr from ↦ new i (omega arith) ];
-}
+pub level-child : (f : List (Node × Position)) → IsFormula f → (i c : ℕ) → ContainsByRecursion c (children (node_at f i)) → level_of f c < level_of f i
+level-child f is i c child = let lower = above-each (level_of f) (children (node_at f i)) c child in let e = level-children f is i in omega (arith, lower, e)
+
+pub level-most : (f : List (Node × Position)) → IsFormula f → (i n : ℕ) → ((c : ℕ) → ContainsByRecursion c (children (node_at f i)) → level_of f c < n) → level_of f i ≤ n
+level-most f is i n below = let most = above-most (level_of f) (children (node_at f i)) n below in let e = level-children f is i in omega (arith, most, e)
+
+low-below : (f : List (Node × Position)) → IsFormula f → (n i : ℕ) → i < n → level_of f i ≤ i
+low-below f is zero i lt = absurd (omega arith)
+low-below f is (suc n) i lt = level-most f is i i (λ c child. (let earlier = earlier-child f is i c child in let low = low-below f is n c (omega arith) in omega (arith, low, earlier)))
+
+-- a level is at most the node's number
+pub level-low : (f : List (Node × Position)) → IsFormula f → (i : ℕ) → level_of f i ≤ i
+level-low f is i = low-below f is (suc i) i (omega arith)
+
+-- the level of a node from the known levels of its children
+module _ (f : List (Node × Position)) (is : IsFormula f) (i : ℕ) (level : ℕ → Option ℕ) (known : AllByRecursion (λ c. level c ≡ Some (level_of f c)) (children (node_at f i))) where
+  read-level : (c n : ℕ) → ContainsByRecursion c (children (node_at f i)) → level c ≡ Some n → (n ≡ level_of f c) × (n < i)
+  read-level c n child read =
+      let value : Some n ≡ Some (level_of f c) = sym read ∙ all-contains (λ (d : ℕ). level d ≡ Some (level_of f d)) c (children (node_at f i)) known child in
+      let same : n ≡ level_of f c = cc value in
+      let low = level-low f is c in
+      let earlier = earlier-child f is i c child in
+      (same, omega (arith, same, low, earlier))
+
+  pub one-level : (a x : ℕ) → children (node_at f i) ≡ a ∷ [] → level a ≡ Some x → (level_of f i ≡ x + 1) × (x < i)
+  one-level a x cs read =
+      let (same, low) = read-level a x (subst (λ (ds : List ℕ). ContainsByRecursion a ds) (sym cs) (inl refl)) read in
+      let value : level_of f i ≡ above_all (map (level_of f) (a ∷ [])) = level-children f is i ∙ ap (λ (ds : List ℕ). above_all (map (level_of f) ds)) cs in
+      (omega (arith, value, same), low)
+
+  pub two-levels : (a b x y : ℕ) → children (node_at f i) ≡ a ∷ b ∷ [] → level a ≡ Some x → level b ≡ Some y → (level_of f i ≡ max x y + 1) × (x < i) × (y < i)
+  two-levels a b x y cs read_a read_b =
+      let (same_a, low_a) = read-level a x (subst (λ (ds : List ℕ). ContainsByRecursion a ds) (sym cs) (inl refl)) read_a in
+      let (same_b, low_b) = read-level b y (subst (λ (ds : List ℕ). ContainsByRecursion b ds) (sym cs) (inr (inl refl))) read_b in
+      let value : level_of f i ≡ above_all (map (level_of f) (a ∷ b ∷ [])) = level-children f is i ∙ ap (λ (ds : List ℕ). above_all (map (level_of f) ds)) cs in
+      (omega (arith, value, same_a, same_b), low_a, low_b)
+
+-- ---- nodes by number
+
+-- what comes before a place of an increasing list is what is less
+pub front-less : (xs : List ℕ) (k i : ℕ) → k < length xs → IsIncreasing xs → ContainsByRecursion i (take k xs) → i < slice_index xs k
+front-less [] k i lt up found = absurd (omega arith)
+front-less (x ∷ xs) zero i lt up none = absurd none
+front-less (x ∷ xs) (suc k) i lt up (inl same) = let above : x < slice_index xs k = all-contains (λ (u : ℕ). x < u) (slice_index xs k) xs up.0 (contains-at xs k (omega arith)) in omega (arith, above, same)
+front-less (x ∷ xs) (suc k) i lt up (inr more) = front-less xs k i (omega arith) up.1 more
+
+pub less-front : (xs : List ℕ) (k i : ℕ) → k < length xs → IsIncreasing xs → ContainsByRecursion i xs → i < slice_index xs k → ContainsByRecursion i (take k xs)
+less-front [] k i lt up none less = absurd none
+less-front (x ∷ xs) zero i lt up (inl same) less = absurd (omega (arith, same))
+less-front (x ∷ xs) zero i lt up (inr more) less = let above : x < i = all-contains (λ (u : ℕ). x < u) i xs up.0 more in absurd (omega (arith, above, less))
+less-front (x ∷ xs) (suc k) i lt up (inl same) less = inl same
+less-front (x ∷ xs) (suc k) i lt up (inr more) less = inr (less-front xs k i (omega arith) up.1 more less)
+
+-- increasing numbers below n are at most n
+increasing-few : (xs : List ℕ) (low n : ℕ) → low ≤ n → IsIncreasing xs → AllByRecursion (λ x. low ≤ x) xs → AllByRecursion (λ x. x < n) xs → low + length xs ≤ n
+increasing-few [] low n le up from below = omega arith
+increasing-few (x ∷ xs) low n le up from below =
+    let low_x : low ≤ x = from.0 in
+    let less : x < n = below.0 in
+    let rest = increasing-few xs (suc x) n (omega arith) up.1 (above xs up.0) below.1 in
+    omega (arith, rest, low_x)
   where
-    old : (i : ℕ) → i < n → slice_index (levels ++ next ∷ []) i ≡ above_all (map (slice_index (levels ++ next ∷ [])) (children (node_at f i)))
-    old i before =
-        let count = so_far.count in
-        let within : i < length levels = omega (arith, count) in
-        let short : i < length f = omega arith in
-        let far : i ≤ length levels = omega arith in
-        get_or-append levels (next ∷ []) 0 i within ∙ so_far.each i before
-        ∙ ap above_all (sym (map-front levels next (children (node_at f i)) (all-below i (length levels) far (children (node_at f i)) (is.each i short).earlier)))
+    above : (ys : List ℕ) → AllByRecursion (λ u. x < u) ys → AllByRecursion (λ u. suc x ≤ u) ys
+    above [] all = tt
+    above (y ∷ ys) all = (let lt : x < y = all.0 in omega arith, above ys all.1)
 
-    new : (i : ℕ) → i ≡ n → slice_index (levels ++ next ∷ []) i ≡ above_all (map (slice_index (levels ++ next ∷ [])) (children (node_at f i)))
-    new i here =
-        let count = so_far.count in
-        let far : n ≤ length levels = omega (arith, count) in
-        let last : slice_index (levels ++ next ∷ []) i ≡ next = ap (slice_index (levels ++ next ∷ [])) (here ∙ sym count) ∙ get_or-append_seam levels next [] 0 in
-        last ∙ value
-        ∙ ap above_all (sym (map-front levels next (children (node_at f n)) (all-below n (length levels) far (children (node_at f n)) (is.each n inside).earlier)))
-        ∙ ap (λ (j : ℕ). above_all (map (slice_index (levels ++ next ∷ [])) (children (node_at f j)))) (sym here)
+all-from : (P : ℕ → Type 0) (xs : List ℕ) → ((i : ℕ) → ContainsByRecursion i xs → P i) → AllByRecursion P xs
+all-from P [] each = tt
+all-from P (x ∷ xs) each = (each x (inl refl), all-from P xs (λ i found. each i (inr found)))
 
-pub small-more : (f : List (Node × Position)) → IsFormula f → (n : ℕ) → n < length f → (levels : List ℕ) (next : ℕ) → length levels ≡ n → next ≡ above_all (map (slice_index levels) (children (node_at f n))) → ((i : ℕ) → slice_index levels i ≤ i) → (i : ℕ) → slice_index (levels ++ next ∷ []) i ≤ i
-small-more f is n inside levels next count value small i =
-    elim (cases_lt i n) [
-      | inl before ↦ (let within : i < length levels = omega (arith, count) in let e = get_or-append levels (next ∷ []) 0 i within in let s = small i in omega (arith, e, s))
-      | inr from ↦ elim (cases_eq i n) [
-        | inl here ↦
-            (let last : slice_index (levels ++ next ∷ []) i ≡ next = ap (slice_index (levels ++ next ∷ [])) (here ∙ sym count) ∙ get_or-append_seam levels next [] 0 in
-            let low = above-small levels n (children (node_at f n)) (is.each n inside).earlier small in
-            omega (arith, last, value, low, here))
-        | inr past ↦ (let far : length (levels ++ next ∷ []) ≤ i = grind (arith, common_steps) in let e = get_or_past (levels ++ next ∷ []) i 0 far in omega (arith, e))
-      ]
-    ]
+pub closed-few : (f : List (Node × Position)) (nodes : List ℕ) → AreClosed f nodes → length nodes ≤ length f
+closed-few f nodes closed =
+    let few = increasing-few nodes 0 (length f) (omega arith) closed.increasing (all-from (λ (x : ℕ). 0 ≤ x) nodes (λ i found. omega arith)) (all-from (λ (x : ℕ). x < length f) nodes closed.within) in
+    omega (arith, few)
 
 -- ---- lists of nodes
 
@@ -93,22 +128,6 @@ row-past [] y past = refl
 row-past (u ∷ rows) zero past = absurd (omega arith)
 row-past (u ∷ rows) (suc y) past = row-past rows y (omega arith)
 
-pub rows-none : (marks : List Bool) (levels : List ℕ) (rows : List (Vec ℕ)) → ((y : ℕ) → row_of rows y ≡ []) → total rows ≡ 0 → AreRows marks levels 0 rows
-rows-none marks levels rows empty none = record {
-  sound = λ l i found. absurd (subst (λ (xs : List ℕ). ContainsByRecursion i xs) (empty l) found);
-  complete = λ i lt marked. absurd (omega arith);
-  few = omega (arith, none);
-  increasing = λ l. subst (λ (xs : List ℕ). IsIncreasing xs) (sym (empty l)) tt;
-}
-
-pub rows-skip : (marks : List Bool) (levels : List ℕ) (n : ℕ) (rows : List (Vec ℕ)) → (IsMarked marks n → ⊥) → AreRows marks levels n rows → AreRows marks levels (n + 1) rows
-rows-skip marks levels n rows unmarked are = record {
-  sound = λ l i found. (let (marked, lt, level) = are.sound l i found in (marked, omega arith, level));
-  complete = λ i lt marked. elim (cases_lt i n) [ inl before ↦ are.complete i before marked | inr from ↦ (let here : i ≡ n = omega arith in absurd (unmarked (subst (λ (j : ℕ). IsMarked marks j) here marked))) ];
-  few = (let few = are.few in omega (arith, few));
-  increasing = are.increasing;
-}
-
 all-last : (P : ℕ → Type 0) (n : ℕ) (xs : List ℕ) → AllByRecursion P xs → P n → AllByRecursion P (xs ++ n ∷ [])
 all-last P n [] all p = (p, tt)
 all-last P n (x ∷ xs) all p = (all.0, all-last P n xs all.1 p)
@@ -117,73 +136,106 @@ increasing-last : (n : ℕ) (xs : List ℕ) → IsIncreasing xs → ((i : ℕ) �
 increasing-last n [] up below = (tt, tt)
 increasing-last n (x ∷ xs) up below = (all-last (λ u. x < u) n xs up.0 (below x (inl refl)), increasing-last n xs up.1 (λ i found. below i (inr found)))
 
-pub rows-add : (marks : List Bool) (levels : List ℕ) (n y : ℕ) (old new : List (Vec ℕ)) → IsMarked marks n → y ≡ slice_index levels n → row_of new y ≡ row_of old y ++ n ∷ [] → ((z : ℕ) → z ≢ y → row_of new z ≡ row_of old z) → total new ≡ total old + 1 →
-    AreRows marks levels n old → AreRows marks levels (n + 1) new
-rows-add marks levels n y old new marked at added others counted are = record {
-  sound = λ l i found. sounds l i found;
-  complete = λ i lt marked_i. elim (cases_lt i n) [
-    | inl before ↦ kept (slice_index levels i) i (are.complete i before marked_i)
-    | inr from ↦ (let here : i ≡ n = omega arith in subst (λ (z : ℕ). ContainsByRecursion i (row_of new z)) (at ∙ ap (slice_index levels) (sym here)) (subst (λ (xs : List ℕ). ContainsByRecursion i xs) (sym added) (contains-end i n (row_of old y) here)))
-  ];
-  few = (let few = are.few in omega (arith, few, counted));
-  increasing = λ l. elim (cases_eq l y) [
-    | inl here ↦
-        (let below : (i : ℕ) → ContainsByRecursion i (row_of old y) → i < n = λ i found. (are.sound y i found).1 in
-        subst (λ (z : ℕ). IsIncreasing (row_of new z)) (sym here) (subst (λ (xs : List ℕ). IsIncreasing xs) (sym added) (increasing-last n (row_of old y) (are.increasing y) below)))
-    | inr apart ↦ subst (λ (xs : List ℕ). IsIncreasing xs) (sym (others l apart)) (are.increasing l)
-  ];
+-- the nodes so far stand in the lists of their levels, and their levels are known
+pub record IsPlanning (f : List (Node × Position)) (nodes : List ℕ) (level : ℕ → Option ℕ) (rows : List (Vec ℕ)) : Type 0 where
+  pub known : (i : ℕ) → ContainsByRecursion i nodes → level i ≡ Some (level_of f i)
+  pub near : (i : ℕ) → ContainsByRecursion i nodes → level_of f i < length rows
+  pub sound : (l i : ℕ) → ContainsByRecursion i (row_of rows l) → ContainsByRecursion i nodes × (level_of f i ≡ l)
+  pub complete : (i : ℕ) → ContainsByRecursion i nodes → ContainsByRecursion i (row_of rows (level_of f i))
+  pub few : total rows ≤ length nodes
+  pub increasing : (l : ℕ) → IsIncreasing (row_of rows l)
+
+pub planning-begins : (f : List (Node × Position)) (level : ℕ → Option ℕ) → IsPlanning f [] level []
+planning-begins f level = record {
+  known = λ i none. absurd none;
+  near = λ i none. absurd none;
+  sound = λ l i none. absurd none;
+  complete = λ i none. absurd none;
+  few = omega arith;
+  increasing = λ l. tt;
 }
-  where
-    kept : (z i : ℕ) → ContainsByRecursion i (row_of old z) → ContainsByRecursion i (row_of new z)
-    kept z i found = elim (cases_eq z y) [
-      | inl here ↦ subst (λ (x : ℕ). ContainsByRecursion i (row_of new x)) (sym here) (subst (λ (xs : List ℕ). ContainsByRecursion i xs) (sym added) (contains-front i n (row_of old y) (subst (λ (x : ℕ). ContainsByRecursion i (row_of old x)) here found)))
-      | inr apart ↦ subst (λ (xs : List ℕ). ContainsByRecursion i xs) (sym (others z apart)) found
-    ]
 
-    weaker : (l i : ℕ) → IsMarked marks i × (i < n) × (slice_index levels i ≡ l) → IsMarked marks i × (i < n + 1) × (slice_index levels i ≡ l)
-    weaker l i (m, lt, level) = (m, omega arith, level)
+module _ (f : List (Node × Position)) (nodes : List ℕ) (n : ℕ) (old_level level : ℕ → Option ℕ) (old mid new : List (Vec ℕ)) (so_far : IsPlanning f nodes old_level old) (last : (i : ℕ) → ContainsByRecursion i nodes → i < n)
+    (here : level n ≡ Some (level_of f n)) (elsewhere : (i : ℕ) → i ≢ n → level i ≡ old_level i) (made : level_of f n < length mid) (longer : length old ≤ length mid) (same : (y : ℕ) → row_of mid y ≡ row_of old y) (total_same : total mid ≡ total old)
+    (count : length new ≡ length mid) (added : row_of new (level_of f n) ≡ row_of mid (level_of f n) ++ n ∷ []) (others : (y : ℕ) → y ≢ level_of f n → row_of new y ≡ row_of mid y) (total_more : total new ≡ total mid + 1) where
+  own : row_of new (level_of f n) ≡ row_of old (level_of f n) ++ n ∷ []
+  own = added ∙ ap (λ (xs : List ℕ). xs ++ n ∷ []) (same (level_of f n))
 
-    sounds : (l i : ℕ) → ContainsByRecursion i (row_of new l) → IsMarked marks i × (i < n + 1) × (slice_index levels i ≡ l)
-    sounds l i found = elim (cases_eq l y) [
-      | inl here ↦ elim (contains-last i n (row_of old y) (subst (λ (xs : List ℕ). ContainsByRecursion i xs) added (subst (λ (x : ℕ). ContainsByRecursion i (row_of new x)) here found))) [
-        | inl before ↦ weaker l i (are.sound l i (subst (λ (x : ℕ). ContainsByRecursion i (row_of old x)) (sym here) before))
-        | inr last ↦ (subst (λ (j : ℕ). IsMarked marks j) (sym last) marked, omega (arith, last), ap (slice_index levels) last ∙ sym at ∙ sym here)
-      ]
-      | inr apart ↦ weaker l i (are.sound l i (subst (λ (xs : List ℕ). ContainsByRecursion i xs) (others l apart) found))
+  else : (y : ℕ) → y ≢ level_of f n → row_of new y ≡ row_of old y
+  else y apart = others y apart ∙ same y
+
+  kept : (y i : ℕ) → ContainsByRecursion i (row_of old y) → ContainsByRecursion i (row_of new y)
+  kept y i found = elim (cases_eq y (level_of f n)) [
+    | inl at ↦ subst (λ (z : ℕ). ContainsByRecursion i (row_of new z)) (sym at) (subst (λ (xs : List ℕ). ContainsByRecursion i xs) (sym own) (contains-front i n (row_of old (level_of f n)) (subst (λ (z : ℕ). ContainsByRecursion i (row_of old z)) at found)))
+    | inr apart ↦ subst (λ (xs : List ℕ). ContainsByRecursion i xs) (sym (else y apart)) found
+  ]
+
+  was : (l i : ℕ) → ContainsByRecursion i (row_of old l) → ContainsByRecursion i (nodes ++ n ∷ []) × (level_of f i ≡ l)
+  was l i found = let (among, level_is) = so_far.sound l i found in (contains-front i n nodes among, level_is)
+
+  sounds : (l i : ℕ) → ContainsByRecursion i (row_of new l) → ContainsByRecursion i (nodes ++ n ∷ []) × (level_of f i ≡ l)
+  sounds l i found = elim (cases_eq l (level_of f n)) [
+    | inl at ↦ elim (contains-last i n (row_of old (level_of f n)) (subst (λ (xs : List ℕ). ContainsByRecursion i xs) own (subst (λ (z : ℕ). ContainsByRecursion i (row_of new z)) at found))) [
+      | inl before ↦ was l i (subst (λ (z : ℕ). ContainsByRecursion i (row_of old z)) (sym at) before)
+      | inr is ↦ (contains-end i n nodes is, ap (level_of f) is ∙ sym at)
     ]
+    | inr apart ↦ was l i (subst (λ (xs : List ℕ). ContainsByRecursion i xs) (else l apart) found)
+  ]
+
+  at-last : (P : ℕ → Type 0) → ((i : ℕ) → ContainsByRecursion i nodes → P i) → P n → (i : ℕ) → ContainsByRecursion i (nodes ++ n ∷ []) → P i
+  at-last P each p i found = elim (contains-last i n nodes found) [ inl before ↦ each i before | inr is ↦ subst P (sym is) p ]
+
+  pub planning-goes-on : IsPlanning f (nodes ++ n ∷ []) level new
+  planning-goes-on = record {
+    known = at-last (λ (i : ℕ). level i ≡ Some (level_of f i)) (λ i before. (let less = last i before in elsewhere i (λ at. absurd (omega (arith, at, less))) ∙ so_far.known i before)) here;
+    near = at-last (λ (i : ℕ). level_of f i < length new) (λ i before. (let near = so_far.near i before in omega (arith, near, longer, count))) (omega (arith, made, count));
+    sound = sounds;
+    complete = at-last (λ (i : ℕ). ContainsByRecursion i (row_of new (level_of f i))) (λ i before. kept (level_of f i) i (so_far.complete i before))
+        (subst (λ (xs : List ℕ). ContainsByRecursion n xs) (sym own) (contains-end n n (row_of old (level_of f n)) refl));
+    few = (let few = so_far.few in grind (arith, common_steps));
+    increasing = λ l. elim (cases_eq l (level_of f n)) [
+      | inl at ↦ subst (λ (z : ℕ). IsIncreasing (row_of new z)) (sym at)
+          (subst (λ (xs : List ℕ). IsIncreasing xs) (sym own) (increasing-last n (row_of old (level_of f n)) (so_far.increasing (level_of f n)) (λ i found. last i (so_far.sound (level_of f n) i found).0)))
+      | inr apart ↦ subst (λ (xs : List ℕ). IsIncreasing xs) (sym (else l apart)) (so_far.increasing l)
+    ];
+  }
+
+pub planning-ends : (f : List (Node × Position)) (nodes : List ℕ) (level : ℕ → Option ℕ) (rows : List (Vec ℕ)) → IsPlanning f nodes level rows → IsPlan f nodes rows
+planning-ends f nodes level rows are = record {
+  few = are.few;
+  increasing = are.increasing;
+  planned = λ l i. (are.sound l i, λ (among, level_is). subst (λ (z : ℕ). ContainsByRecursion i (row_of rows z)) level_is (are.complete i among));
+}
+
+-- a key that is another number
+pub get-apart : (n i : ℕ) → i ≢ n → nat_eq n i ≡ false
+get-apart n i apart = grind (arith, common_steps)
+
+-- the children of the next node come before it
+module _ (f : List (Node × Position)) (is : IsFormula f) (nodes : List ℕ) (k : ℕ) (level : ℕ → Option ℕ) (rows : List (Vec ℕ)) (closed : AreClosed f nodes) (lt : k < length nodes) (so_far : IsPlanning f (take k nodes) level rows) where
+  child-before : (c : ℕ) → ContainsByRecursion c (children (node_at f (slice_index nodes k))) → ContainsByRecursion c (take k nodes)
+  child-before c child = less-front nodes k c lt closed.increasing (closed.children (slice_index nodes k) c (contains-at nodes k lt) child) (earlier-child f is (slice_index nodes k) c child)
+
+  pub children-known : AllByRecursion (λ c. level c ≡ Some (level_of f c)) (children (node_at f (slice_index nodes k)))
+  children-known = all-from (λ (c : ℕ). level c ≡ Some (level_of f c)) (children (node_at f (slice_index nodes k))) (λ c child. so_far.known c (child-before c child))
+
+  pub level-near : level_of f (slice_index nodes k) ≤ length rows
+  level-near = level-most f is (slice_index nodes k) (length rows) (λ c child. so_far.near c (child-before c child))
 
 -- ---- the plan
 
-pub plan-of : (f : List (Node × Position)) (roots : List ℕ) (marks : List Bool) (levels : List ℕ) (n : ℕ) (rows : List (Vec ℕ)) → AreMarks f roots marks → AreLevels f (length f) levels → n ≡ length f → AreRows marks levels n rows → IsPlan f roots rows
-plan-of f roots marks levels n rows are_marks are_levels whole are_rows = record {
-  levels = levels;
-  are_levels = are_levels;
-  few = (let few = are_rows.few in omega (arith, few, whole));
-  increasing = are_rows.increasing;
-  within = λ i reached. inside i reached;
-  planned = λ l i. (
-    λ found. (let (marked, lt, level) = are_rows.sound l i found in ((are_marks.marked i).0 marked, level)),
-    λ (reached, level). subst (λ (z : ℕ). ContainsByRecursion i (row_of rows z)) level (are_rows.complete i (let lt = inside i reached in omega (arith, lt, whole)) ((are_marks.marked i).1 reached)),
-  );
-}
-  where
-    inside : (i : ℕ) → IsReached f roots i → i < length f
-    inside i reached = let lt = marked-inside marks i ((are_marks.marked i).1 reached) in let count = are_marks.count in omega (arith, lt, count)
-
-pub plan-ordered : (f : List (Node × Position)) (roots : List ℕ) (rows : List (Vec ℕ)) → IsPlan f roots rows → AreOrdered f rows
-plan-ordered f roots rows plan = record {
-  within = λ l i found. plan.within i ((plan.planned l i).0 found).0;
-  children = λ l i c found child. (let (reached, level) = (plan.planned l i).0 found in
-      let inside = plan.within i reached in
-      let lower = above-each plan.levels (children (node_at f i)) c child in
-      let equation = plan.are_levels.each i inside in
-      let below : slice_index plan.levels c < l = omega (arith, lower, equation, level) in
-      (slice_index plan.levels c, below, (plan.planned (slice_index plan.levels c) c).1 (child-reached f roots i c reached child, refl)));
-  few = plan.few;
+pub plan-ordered : (f : List (Node × Position)) → IsFormula f → (nodes : List ℕ) (rows : List (Vec ℕ)) → AreClosed f nodes → IsPlan f nodes rows → AreOrdered f rows
+plan-ordered f is nodes rows closed plan = record {
+  within = λ l i found. closed.within i ((plan.planned l i).0 found).0;
+  children = λ l i c found child. (let (among, level_is) = (plan.planned l i).0 found in
+      let lower = level-child f is i c child in
+      (level_of f c, omega (arith, lower, level_is), (plan.planned (level_of f c) c).1 (closed.children i c among child, refl)));
+  few = (let few = plan.few in let short = closed-few f nodes closed in omega (arith, few, short));
 }
 
-pub planned-reached : (f : List (Node × Position)) (roots : List ℕ) (rows : List (Vec ℕ)) → IsPlan f roots rows → (i : ℕ) → IsPlanned rows i → IsReached f roots i
-planned-reached f roots rows plan i (l, found) = ((plan.planned l i).0 found).0
+module _ (f : List (Node × Position)) (roots nodes : List ℕ) (rows : List (Vec ℕ)) (are : AreReached f roots nodes) (plan : IsPlan f nodes rows) where
+  pub planned-reached : (i : ℕ) → IsPlanned rows i → IsReached f roots i
+  planned-reached i (l, found) = (are.each i).0 ((plan.planned l i).0 found).0
 
-pub reached-planned : (f : List (Node × Position)) (roots : List ℕ) (rows : List (Vec ℕ)) → IsPlan f roots rows → (i : ℕ) → IsReached f roots i → IsPlanned rows i
-reached-planned f roots rows plan i reached = (slice_index plan.levels i, (plan.planned (slice_index plan.levels i) i).1 (reached, refl))
+  pub reached-planned : (i : ℕ) → IsReached f roots i → IsPlanned rows i
+  reached-planned i reached = (level_of f i, (plan.planned (level_of f i) i).1 ((are.each i).1 reached, refl))

@@ -6,7 +6,7 @@ pub mod BinaryLaws
 pub mod QuantifierLaws
 pub mod NegationLaws
 pub mod OutcomeLaws
-pub mod MarkLaws
+pub mod ReachLaws
 pub mod LevelLaws
 pub mod RunLaws
 pub mod ToldLaws

@@ -1,11 +1,9 @@
 -- Outcomes in longer lists, of a level, and of all levels.
-use Rattle.std.proofs.Common.{◌≡◌, ◌≢◌, ◌⊎◌, inl, inr, ℕ, zero, suc, ◌+◌, ◌*◌, ◌<◌, ◌≤◌, List, [], ◌∷◌, length, take, set, refl, ap, sym, subst, ◌∙◌, arith}
+use Rattle.std.proofs.Common.{◌≡◌, ◌≢◌, ◌⊎◌, inl, inr, ℕ, zero, suc, ◌+◌, ◌*◌, ◌<◌, ◌≤◌, List, [], ◌∷◌, length, take, refl, ap, sym, subst, ◌∙◌, arith}
 use Rattle.std.specs.Prelude.{slice_get, slice_index, slice_index_or, Some, ◌↔◌, ℤ}
 use Rattle.std.specs.List.{AllByRecursion}
 use Rattle.std.specs.Global.{Vec}
 use Rattle.std.proofs.lemmas.Bool.{cases_lt, cases_eq}
-use Rattle.std.proofs.lemmas.Grind.{common_steps}
-use Rattle.std.proofs.lemmas.List.{get_or-set_same, get_or-set_other}
 use Rattle.std.proofs.lemmas.Option.{slice_get-get_or}
 use Rattle.std.proofs.lemmas.List.Sums.{sum_by-cons, sum_by-take-le}
 use Rattle.std.proofs.Math.Nat.{mul-le-mul_left}
@@ -30,7 +28,7 @@ use Rattle.pt_eval.specs.Evaluating.{IsCheap, HaveSolutions, KnowsReached, HaveF
 use Rattle.pt_eval.specs.Outcomes.{IsEvaluated, IsOutcome, IsSettled, AreOutcomes, AreReady, AreResults, AreWritten, RefusesWhere, outcome_at, known, costly}
 use Rattle.pt_eval.specs.Levels.{row_of, row_items, total, IsPlanned, AreOrdered}
 use Rattle.pt_eval.proofs.CostLaws.{cost-excluded}
-use Rattle.pt_eval.proofs.MarkLaws.{below-reached, contains-at, contained-at}
+use Rattle.pt_eval.proofs.ReachLaws.{below-reached, contains-at, contained-at}
 use Rattle.pt_eval.proofs.LevelLaws.{row-past}
 
 -- ---- longer lists
@@ -51,8 +49,8 @@ outcome-longer law home old new longer f bound i (Known h) is = record {
 outcome-longer law home old new longer f bound i Costly is = is
 outcome-longer law home old new longer f bound i LeftOut is = is
 
-pub outcomes-longer : LongerListsKnow → (home : Home) (old new : Lists) → Extends old new → (f : List (Node × Position)) (bound : ℕ) (outcomes : List Outcome) → AreOutcomes home old f bound outcomes → AreOutcomes home new f bound outcomes
-outcomes-longer law home old new longer f bound outcomes are = record { count = are.count; each = λ i. outcome-longer law home old new longer f bound i (outcome_at outcomes i) (are.each i) }
+pub outcomes-longer : LongerListsKnow → (home : Home) (old new : Lists) → Extends old new → (f : List (Node × Position)) (bound : ℕ) (outcomes : ℕ → Outcome) → AreOutcomes home old f bound outcomes → AreOutcomes home new f bound outcomes
+outcomes-longer law home old new longer f bound outcomes are = λ i. outcome-longer law home old new longer f bound i (outcomes i) (are i)
 
 pub where-moved : (P Q : ℕ → Type 0) → ((i : ℕ) → P i → Q i) → (f : List (Node × Position)) (bound : ℕ) (home : Home) (limit : ℕ) (lists : Lists) (fault : StoreFault) → RefusesWhere P f bound home limit lists fault → RefusesWhere Q f bound home limit lists fault
 where-moved P Q into f bound home limit lists (store.Full shard count) (full, (i, p, cheap, lacks)) = (full, (i, into i p, cheap, lacks))
@@ -62,49 +60,36 @@ where-moved P Q into f bound home limit lists store.NoMemory refused = tt
 
 -- ---- writing results
 
-pub written-more : (nodes : List ℕ) (results : List Outcome) (n : ℕ) (old mid : List Outcome) → slice_index nodes n < length old → AreWritten nodes results n old mid → AreWritten nodes results (n + 1) old (set mid (slice_index nodes n) (outcome_at results n))
-written-more nodes results n old mid inside are = record {
-  count = (let c = are.count in grind (arith, common_steps));
+pub written-more : (nodes : List ℕ) (results : List Outcome) (n : ℕ) (old mid new : ℕ → Outcome) → new (slice_index nodes n) ≡ outcome_at results n → ((i : ℕ) → i ≢ slice_index nodes n → new i ≡ mid i) → AreWritten nodes results n old mid → AreWritten nodes results (n + 1) old new
+written-more nodes results n old mid new at else are = record {
   each = λ i. elim (cases_eq i (slice_index nodes n)) [
-    | inl here ↦ inr (n, omega arith, sym here, at-here i here)
+    | inl here ↦ inr (n, omega arith, sym here, ap new here ∙ at)
     | inr apart ↦ elim (are.each i) [
       | inl same ↦ inl (else i apart ∙ same)
       | inr other ↦ (let (k, lt, node, is) = other in inr (k, omega arith, node, else i apart ∙ is))
     ]
   ];
   written = λ k lt. elim (cases_eq (slice_index nodes k) (slice_index nodes n)) [
-    | inl here ↦ (n, omega arith, sym here, at-here (slice_index nodes k) here)
+    | inl here ↦ (n, omega arith, sym here, ap new here ∙ at)
     | inr apart ↦ before k apart (elim (cases_lt k n) [ inl low ↦ low | inr from ↦ (let e : k ≡ n = omega arith in absurd (apart (ap (slice_index nodes) e))) ])
   ];
 }
   where
-    at-here : (i : ℕ) → i ≡ slice_index nodes n → outcome_at (set mid (slice_index nodes n) (outcome_at results n)) i ≡ outcome_at results n
-    at-here i here =
-        let c = are.count in
-        let within : slice_index nodes n < length mid = omega (arith, c, inside) in
-        ap (outcome_at (set mid (slice_index nodes n) (outcome_at results n))) here ∙ get_or-set_same mid (slice_index nodes n) (outcome_at results n) Pending within
-
-    else : (i : ℕ) → i ≢ slice_index nodes n → outcome_at (set mid (slice_index nodes n) (outcome_at results n)) i ≡ outcome_at mid i
-    else i apart = get_or-set_other mid (slice_index nodes n) i (outcome_at results n) Pending apart
-
-    before : (k : ℕ) → slice_index nodes k ≢ slice_index nodes n → k < n → (m : ℕ) × (m < n + 1) × (slice_index nodes m ≡ slice_index nodes k) × (outcome_at (set mid (slice_index nodes n) (outcome_at results n)) (slice_index nodes k) ≡ outcome_at results m)
+    before : (k : ℕ) → slice_index nodes k ≢ slice_index nodes n → k < n → (m : ℕ) × (m < n + 1) × (slice_index nodes m ≡ slice_index nodes k) × (new (slice_index nodes k) ≡ outcome_at results m)
     before k apart low = let (m, lt, node, is) = are.written k low in (m, omega arith, node, else (slice_index nodes k) apart ∙ is)
 
 -- ---- one more level
 
-module _ (home : Home) (lists : Lists) (f : List (Node × Position)) (bound : ℕ) (nodes : List ℕ) (results old new : List Outcome) (are : AreOutcomes home lists f bound old) (of_level : AreResults home lists f bound nodes results) (written : AreWritten nodes results (length nodes) old new) where
+module _ (home : Home) (lists : Lists) (f : List (Node × Position)) (bound : ℕ) (nodes : List ℕ) (results : List Outcome) (old new : ℕ → Outcome) (are : AreOutcomes home lists f bound old) (of_level : AreResults home lists f bound nodes results) (written : AreWritten nodes results (length nodes) old new) where
   pub level-outcomes : AreOutcomes home lists f bound new
-  level-outcomes = record {
-    count = written.count ∙ are.count;
-    each = λ i. elim (written.each i) [
-      | inl same ↦ subst (λ (o : Outcome). IsOutcome home lists f bound i o) (sym same) (are.each i)
-      | inr other ↦ (let (k, lt, node, is) = other in
-          subst (λ (o : Outcome). IsOutcome home lists f bound i o) (sym is) (subst (λ (j : ℕ). IsOutcome home lists f bound j (outcome_at results k)) node (of_level.each k lt).0))
-    ];
-  }
+  level-outcomes i = elim (written.each i) [
+    | inl same ↦ subst (λ (o : Outcome). IsOutcome home lists f bound i o) (sym same) (are i)
+    | inr other ↦ (let (k, lt, node, is) = other in
+        subst (λ (o : Outcome). IsOutcome home lists f bound i o) (sym is) (subst (λ (j : ℕ). IsOutcome home lists f bound j (outcome_at results k)) node (of_level.each k lt).0))
+  ]
 
   -- the nodes of the level are done with, and so are those that were before
-  pub level-settled : (i : ℕ) → IsSettled (outcome_at old i) ⊎ ContainsByRecursion i nodes → IsSettled (outcome_at new i)
+  pub level-settled : (i : ℕ) → IsSettled (old i) ⊎ ContainsByRecursion i nodes → IsSettled (new i)
   level-settled i (inl was) = elim (written.each i) [
     | inl same ↦ subst IsSettled (sym same) was
     | inr other ↦ (let (k, lt, node, is) = other in subst IsSettled (sym is) (of_level.each k lt).1)
@@ -112,10 +97,10 @@ module _ (home : Home) (lists : Lists) (f : List (Node × Position)) (bound : �
   level-settled i (inr found) =
       let (k, lt, node) = contained-at i nodes found in
       let (m, less, same, is) = written.written k lt in
-      let there : outcome_at new i ≡ outcome_at results m = ap (outcome_at new) (sym node) ∙ is in
+      let there : new i ≡ outcome_at results m = ap new (sym node) ∙ is in
       subst IsSettled (sym there) (of_level.each m less).1
 
-  pub settled-level : (i : ℕ) → IsSettled (outcome_at new i) → IsSettled (outcome_at old i) ⊎ ContainsByRecursion i nodes
+  pub settled-level : (i : ℕ) → IsSettled (new i) → IsSettled (old i) ⊎ ContainsByRecursion i nodes
   settled-level i settled = elim (written.each i) [
     | inl same ↦ inl (subst IsSettled same settled)
     | inr other ↦ (let (k, lt, node, is) = other in inr (subst (λ (j : ℕ). ContainsByRecursion j nodes) node (contains-at nodes k lt)))
@@ -125,8 +110,8 @@ module _ (home : Home) (lists : Lists) (f : List (Node × Position)) (bound : �
 abbrev pub IsDoneBefore : List (Vec ℕ) → ℕ → ℕ → Type 0
 IsDoneBefore rows n i = (y : ℕ) × (y < n) × ContainsByRecursion i (row_of rows y)
 
-pub done-more : (rows : List (Vec ℕ)) (n : ℕ) (old new : List Outcome) (nodes : List ℕ) → ((i : ℕ) → ContainsByRecursion i nodes ↔ ContainsByRecursion i (row_of rows n)) → ((i : ℕ) → IsSettled (outcome_at old i) ⊎ ContainsByRecursion i nodes → IsSettled (outcome_at new i)) → ((i : ℕ) → IsSettled (outcome_at new i) → IsSettled (outcome_at old i) ⊎ ContainsByRecursion i nodes) →
-    ((i : ℕ) → IsSettled (outcome_at old i) ↔ IsDoneBefore rows n i) → (i : ℕ) → IsSettled (outcome_at new i) ↔ IsDoneBefore rows (n + 1) i
+pub done-more : (rows : List (Vec ℕ)) (n : ℕ) (old new : ℕ → Outcome) (nodes : List ℕ) → ((i : ℕ) → ContainsByRecursion i nodes ↔ ContainsByRecursion i (row_of rows n)) → ((i : ℕ) → IsSettled (old i) ⊎ ContainsByRecursion i nodes → IsSettled (new i)) → ((i : ℕ) → IsSettled (new i) → IsSettled (old i) ⊎ ContainsByRecursion i nodes) →
+    ((i : ℕ) → IsSettled (old i) ↔ IsDoneBefore rows n i) → (i : ℕ) → IsSettled (new i) ↔ IsDoneBefore rows (n + 1) i
 done-more rows n old new nodes same into back was i = (
   λ settled. elim (back i settled) [
     | inl before ↦ (let (y, lt, found) = (was i).0 before in (y, omega arith, found))
@@ -138,14 +123,14 @@ done-more rows n old new nodes same into back was i = (
   ],
 )
 
-pub level-ready : (f : List (Node × Position)) (rows : List (Vec ℕ)) (n : ℕ) (outcomes : List Outcome) (nodes : List ℕ) → nodes ≡ row_of rows n → AreOrdered f rows → ((i : ℕ) → IsSettled (outcome_at outcomes i) ↔ IsDoneBefore rows n i) → AreReady f outcomes nodes
+pub level-ready : (f : List (Node × Position)) (rows : List (Vec ℕ)) (n : ℕ) (outcomes : ℕ → Outcome) (nodes : List ℕ) → nodes ≡ row_of rows n → AreOrdered f rows → ((i : ℕ) → IsSettled (outcomes i) ↔ IsDoneBefore rows n i) → AreReady f outcomes nodes
 level-ready f rows n outcomes nodes is ordered was k lt =
     let found : ContainsByRecursion (slice_index nodes k) (row_of rows n) = subst (λ (xs : List ℕ). ContainsByRecursion (slice_index nodes k) xs) is (contains-at nodes k lt) in
     (ordered.within n (slice_index nodes k) found, λ c child. (was c).1 (ordered.children n (slice_index nodes k) c found child))
 
 -- ---- the end
 
-module _ (home : Home) (lists : Lists) (f : List (Node × Position)) (roots : List ℕ) (bound : ℕ) (outcomes : List Outcome) (are : AreOutcomes home lists f bound outcomes) (settled : (i : ℕ) → IsReached f roots i → IsSettled (outcome_at outcomes i)) where
+module _ (home : Home) (lists : Lists) (f : List (Node × Position)) (roots : List ℕ) (bound : ℕ) (outcomes : ℕ → Outcome) (are : AreOutcomes home lists f bound outcomes) (settled : (i : ℕ) → IsReached f roots i → IsSettled (outcomes i)) where
   costly-excludes : (i : ℕ) → IsCostly f bound i → IsCheap f bound i → ⊥
   costly-excludes i is cheap = cost-excluded (tree_of f i) bound is.above (cheap i ([], refl))
 
@@ -156,25 +141,25 @@ module _ (home : Home) (lists : Lists) (f : List (Node × Position)) (roots : Li
   is-costly i Costly is done refused = refl
   is-costly i LeftOut (d, below, at) done refused = absurd (cost-excluded (tree_of f d) bound at.above (refused.below d below))
 
-  pub refused-at : (i : ℕ) → outcome_at outcomes i ≡ costly → ((j : ℕ) → outcome_at outcomes j ≡ costly → i ≤ j) → IsReached f roots i → IsRefused f roots bound i
+  pub refused-at : (i : ℕ) → outcomes i ≡ costly → ((j : ℕ) → IsReached f roots j → outcomes j ≡ costly → i ≤ j) → IsReached f roots i → IsRefused f roots bound i
   refused-at i is first reached = record {
     reached = reached;
-    costly = subst (λ (o : Outcome). IsOutcome home lists f bound i o) is (are.each i);
-    least = λ j reached_j costly_j. first j (is-costly j (outcome_at outcomes j) (are.each j) (settled j reached_j) costly_j);
+    costly = subst (λ (o : Outcome). IsOutcome home lists f bound i o) is (are i);
+    least = λ j reached_j costly_j. first j reached_j (is-costly j (outcomes j) (are j) (settled j reached_j) costly_j);
   }
 
-  module _ (none : (j : ℕ) → outcome_at outcomes j ≢ costly) where
+  module _ (none : (j : ℕ) → IsReached f roots j → outcomes j ≢ costly) where
     -- then each reached node is evaluated
-    evaluated-by : (i : ℕ) (o : Outcome) → o ≡ outcome_at outcomes i → IsReached f roots i → IsOutcome home lists f bound i o → IsSettled o → (h : Handle) × (o ≡ known h) × IsEvaluated home lists f bound i h
+    evaluated-by : (i : ℕ) (o : Outcome) → o ≡ outcomes i → IsReached f roots i → IsOutcome home lists f bound i o → IsSettled o → (h : Handle) × (o ≡ known h) × IsEvaluated home lists f bound i h
     evaluated-by i Pending at reached is done = absurd done
     evaluated-by i (Known h) at reached is done = (h, refl, is)
-    evaluated-by i Costly at reached is done = absurd (none i (sym at))
+    evaluated-by i Costly at reached is done = absurd (none i reached (sym at))
     evaluated-by i LeftOut at reached (d, (c, cs, path), refused) done =
         let there = below-reached f roots i (c ∷ cs) d reached path in
-        absurd (none d (is-costly d (outcome_at outcomes d) (are.each d) (settled d there) refused))
+        absurd (none d there (is-costly d (outcomes d) (are d) (settled d there) refused))
 
-    pub evaluated-at : (i : ℕ) → IsReached f roots i → (h : Handle) × (outcome_at outcomes i ≡ known h) × IsEvaluated home lists f bound i h
-    evaluated-at i reached = evaluated-by i (outcome_at outcomes i) refl reached (are.each i) (settled i reached)
+    pub evaluated-at : (i : ℕ) → IsReached f roots i → (h : Handle) × (outcomes i ≡ known h) × IsEvaluated home lists f bound i h
+    evaluated-at i reached = evaluated-by i (outcomes i) refl reached (are i) (settled i reached)
 
     pub none-refused : NoneRefused f roots bound
     none-refused d reached = let (h, is, at) = evaluated-at d reached in at.cheap d ([], refl)
@@ -185,10 +170,10 @@ module _ (home : Home) (lists : Lists) (f : List (Node × Position)) (roots : Li
     pub knows-reached : KnowsReached home lists f roots
     knows-reached i reached = let (h, is, at) = evaluated-at i reached in (h, at.solutions)
 
-    pub have-solutions : (handles : List Handle) → length handles ≡ length roots → ((k : ℕ) (h : Handle) → slice_get handles k ≡ Some h → outcome_at outcomes (slice_index roots k) ≡ known h) → HaveSolutions home lists f roots handles
+    pub have-solutions : (handles : List Handle) → length handles ≡ length roots → ((k : ℕ) (h : Handle) → slice_get handles k ≡ Some h → outcomes (slice_index roots k) ≡ known h) → HaveSolutions home lists f roots handles
     have-solutions handles count each = record {
       count = count;
-      each = λ k h at. (subst (λ (o : Outcome). IsOutcome home lists f bound (slice_index roots k) o) (each k h at) (are.each (slice_index roots k))).solutions;
+      each = λ k h at. (subst (λ (o : Outcome). IsOutcome home lists f bound (slice_index roots k) o) (each k h at) (are (slice_index roots k))).solutions;
     }
 
 pub all-roots : (P : ℕ → Type 0) (roots : List ℕ) → ((r : ℕ) → ContainsByRecursion r roots → P r) → AllByRecursion P roots
@@ -221,7 +206,7 @@ pub offers-within : (old mid new a b n B : ℕ) → mid ≤ old + a * B → new 
 offers-within old mid new a b n B first second le = let most : B * (a + b) ≤ B * n = mul-le-mul_left B le in omega (arith, first, second, most)
 
 -- the nodes done with at the end are those of all lists
-pub done-all : (rows : List (Vec ℕ)) (n : ℕ) (outcomes : List Outcome) → length rows ≤ n → ((i : ℕ) → IsSettled (outcome_at outcomes i) ↔ IsDoneBefore rows n i) → (i : ℕ) → IsSettled (outcome_at outcomes i) ↔ IsPlanned rows i
+pub done-all : (rows : List (Vec ℕ)) (n : ℕ) (outcomes : ℕ → Outcome) → length rows ≤ n → ((i : ℕ) → IsSettled (outcomes i) ↔ IsDoneBefore rows n i) → (i : ℕ) → IsSettled (outcomes i) ↔ IsPlanned rows i
 done-all rows n outcomes past was i = (
   λ settled. (let (y, lt, found) = (was i).0 settled in (y, found)),
   λ (y, found). elim (cases_lt y n) [

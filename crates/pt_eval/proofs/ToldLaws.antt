@@ -1,10 +1,10 @@
 -- What is told of the nodes of one level.
-use Rattle.std.proofs.Common.{◌≡◌, inl, inr, ℕ, zero, suc, ◌+◌, ◌*◌, ◌<◌, ◌≤◌, List, [], ◌∷◌, length, map, set, refl, ap, sym, subst, arith}
-use Rattle.std.specs.Prelude.{◌↔◌, All, Contains, slice_index, slice_index_or, sum_by}
+use Rattle.std.proofs.Common.{◌≡◌, ◌≢◌, ℕ, zero, suc, ◌+◌, ◌*◌, ◌<◌, ◌≤◌, List, [], ◌∷◌, length, map, refl, ap, sym, subst, ◌∙◌, arith}
+use Rattle.std.specs.Prelude.{◌↔◌, All, slice_index, slice_index_or, sum_by}
 use Rattle.std.specs.List.Sorted.{IsPermutation}
 use Rattle.std.specs.Global.{Vec}
-use Rattle.std.proofs.lemmas.List.Elements.{All-from_get_or, All-head, All-tail, Contains-get_or}
-use Rattle.std.proofs.lemmas.List.Sorted.{IsPermutation-sym, Contains-permutation}
+use Rattle.std.proofs.lemmas.List.Elements.{All-from_get_or, All-head, All-tail}
+use Rattle.std.proofs.lemmas.List.Sorted.{IsPermutation-sym}
 use Rattle.std.proofs.lemmas.List.Sums.{sum_by-cons}
 use Rattle.pt_sets.specs.Elements.{ContainsByRecursion}
 use Rattle.pt_sets.specs.Lists.{Lists, Home}
@@ -18,15 +18,15 @@ use Rattle.pt_eval.specs.declared.outcome.Outcome.TheVariants.{Pending}
 use Rattle.pt_eval.specs.Evaluating.{IsCheap, LacksSolutions}
 use Rattle.pt_eval.specs.Levels.{row_of, IsPlanned, AreOrdered}
 use Rattle.pt_eval.specs.Outcomes.{AreOutcomes, AreResults, AreWritten, IsResult, IsSettled, MayBegin, RefusesWhere, outcome_at}
-use Rattle.pt_eval.proofs.MarkLaws.{contained-at}
+use Rattle.pt_eval.proofs.ReachLaws.{contains-from, contains-moved}
 use Rattle.pt_sets.specs.Lists.{Extends}
 use Rattle.pt_sets.proofs.ListLaws.{Extends-trans}
 use Rattle.pt_handles.specs.Laws.{LongerListsKnow}
 use Rattle.pt_eval.proofs.RunLaws.{IsDoneBefore, level-ready, outcome-longer, outcomes-longer, written-more}
 
 -- the work at each node of a level may begin
-pub level-begins : (home : Home) (lists : Lists) (f : List (Node × Position)) (bound : ℕ) (rows : List (Vec ℕ)) (n : ℕ) (outcomes : List Outcome) (nodes : List ℕ) → nodes ≡ row_of rows n → AreOrdered f rows → AreOutcomes home lists f bound outcomes → 0 < bound → bound ≤ 65536 →
-    ((i : ℕ) → IsSettled (outcome_at outcomes i) ↔ IsDoneBefore rows n i) → All (λ i. MayBegin home lists f bound outcomes i) nodes
+pub level-begins : (home : Home) (lists : Lists) (f : List (Node × Position)) (bound : ℕ) (rows : List (Vec ℕ)) (n : ℕ) (outcomes : ℕ → Outcome) (nodes : List ℕ) → nodes ≡ row_of rows n → AreOrdered f rows → AreOutcomes home lists f bound outcomes → 0 < bound → bound ≤ 65536 →
+    ((i : ℕ) → IsSettled (outcomes i) ↔ IsDoneBefore rows n i) → All (λ i. MayBegin home lists f bound outcomes i) nodes
 level-begins home lists f bound rows n outcomes nodes is ordered are some few was =
     All-from_get_or (λ i. MayBegin home lists f bound outcomes i) nodes 0 (λ k lt.
     let ready = level-ready f rows n outcomes nodes is ordered was k lt in
@@ -43,31 +43,9 @@ told-results home lists f bound (t ∷ told) all =
     at zero lt rest = All-head (λ t. IsResult home lists f bound t.0 t.1) t told all
     at (suc k) lt rest = rest.each k (omega arith)
 
-contains-from : (xs : List ℕ) (k x : ℕ) → k < length xs → slice_index_or xs k x ≡ x → ContainsByRecursion x xs
-contains-from [] k x lt is = absurd (omega arith)
-contains-from (y ∷ xs) zero x lt is = inl (sym is)
-contains-from (y ∷ xs) (suc k) x lt is = inr (contains-from xs k x (omega arith) is)
-
-contains-to : (xs : List ℕ) (x : ℕ) → ContainsByRecursion x xs → Contains xs x
-contains-to xs x found = let (k, lt, is) = contained-at x xs found in subst (λ (y : ℕ). Contains xs y) is (Contains-get_or xs k 0 lt)
-
-contains-moved : (xs ys : List ℕ) → IsPermutation xs ys → (x : ℕ) → ContainsByRecursion x xs → ContainsByRecursion x ys
-contains-moved xs ys moved x found = let (k, lt, is) = Contains-permutation xs ys x moved (contains-to xs x found) in contains-from ys k x lt is
-
 -- the nodes that are told are those of the level
 pub told-nodes : (nodes : List ℕ) (told : List (ℕ × Outcome)) → IsPermutation nodes (map (λ t. t.0) told) → (i : ℕ) → ContainsByRecursion i (map (λ t. t.0) told) ↔ ContainsByRecursion i nodes
 told-nodes nodes told once i = (contains-moved (map (λ t. t.0) told) nodes (IsPermutation-sym nodes (map (λ t. t.0) told) once) i, contains-moved nodes (map (λ t. t.0) told) once i)
-
-pub told-within : (nodes : List ℕ) (told : List (ℕ × Outcome)) (P : ℕ → Type 0) → IsPermutation nodes (map (λ t. t.0) told) → ((i : ℕ) → ContainsByRecursion i nodes → P i) → All (λ t. P t.0) told
-told-within nodes told P once all = go told (λ i found. all i ((told-nodes nodes told once i).0 found))
-  where
-    go : (ts : List (ℕ × Outcome)) → ((i : ℕ) → ContainsByRecursion i (map (λ (t : ℕ × Outcome). t.0) ts) → P i) → All (λ t. P t.0) ts
-    go [] each = λ k d lt. absurd (omega arith)
-    go (t ∷ ts) each = λ k d lt. at k d lt (go ts (λ i found. each i (inr found)))
-      where
-        at : (k : ℕ) (d : ℕ × Outcome) → k < length (t ∷ ts) → All (λ t. P t.0) ts → P (slice_index_or (t ∷ ts) k d).0
-        at zero d lt rest = each t.0 (inl refl)
-        at (suc k) d lt rest = rest k d (omega arith)
 
 -- the refusal of a level is one of all that are planned
 pub refuses-planned : (f : List (Node × Position)) (bound : ℕ) (home : Home) (limit : ℕ) (lists : Lists) (rows : List (Vec ℕ)) (n : ℕ) (nodes : List ℕ) (fault : StoreFault) → nodes ≡ row_of rows n →
@@ -92,7 +70,7 @@ node-refuses f bound home limit lists id (store.Full shard count) ((same, at), (
     (same, at, subst (λ (j : ℕ). IsCheap f bound j × LacksSolutions home limit lists f j) (sym is) (cheap, lacks))
 node-refuses f bound home limit lists id store.NoMemory refused = tt
 
-pub begins-longer : LongerListsKnow → (home : Home) (old new : Lists) → Extends old new → (f : List (Node × Position)) (bound : ℕ) (outcomes : List Outcome) (i : ℕ) → MayBegin home old f bound outcomes i → MayBegin home new f bound outcomes i
+pub begins-longer : LongerListsKnow → (home : Home) (old new : Lists) → Extends old new → (f : List (Node × Position)) (bound : ℕ) (outcomes : ℕ → Outcome) (i : ℕ) → MayBegin home old f bound outcomes i → MayBegin home new f bound outcomes i
 begins-longer law home old new longer f bound outcomes i begins = record {
   are = outcomes-longer law home old new longer f bound outcomes begins.are;
   inside = begins.inside;
@@ -114,16 +92,9 @@ get-map f [] k d e lt = absurd (omega arith)
 get-map f (x ∷ xs) zero d e lt = refl
 get-map f (x ∷ xs) (suc k) d e lt = get-map f xs k d e (omega arith)
 
-pub told-written : (told : List (ℕ × Outcome)) (k : ℕ) (old mid : List Outcome) → k < length told → All (λ t. t.0 < length old) told → AreWritten (map (λ t. t.0) told) (map (λ t. t.1) told) k old mid →
-    AreWritten (map (λ t. t.0) told) (map (λ t. t.1) told) (k + 1) old (set mid (slice_index_or told k (0, Pending)).0 (slice_index_or told k (0, Pending)).1)
-told-written told k old mid lt within are =
+pub told-written : (told : List (ℕ × Outcome)) (k : ℕ) (old mid new : ℕ → Outcome) → k < length told → new (slice_index_or told k (0, Pending)).0 ≡ (slice_index_or told k (0, Pending)).1 → ((i : ℕ) → i ≢ (slice_index_or told k (0, Pending)).0 → new i ≡ mid i) →
+    AreWritten (map (λ t. t.0) told) (map (λ t. t.1) told) k old mid → AreWritten (map (λ t. t.0) told) (map (λ t. t.1) told) (k + 1) old new
+told-written told k old mid new lt at else are =
     let node : slice_index (map (λ (t : ℕ × Outcome). t.0) told) k ≡ (slice_index_or told k (0, Pending)).0 = get-map (λ (t : ℕ × Outcome). t.0) told k (0, Pending) 0 lt in
     let outcome : outcome_at (map (λ (t : ℕ × Outcome). t.1) told) k ≡ (slice_index_or told k (0, Pending)).1 = get-map (λ (t : ℕ × Outcome). t.1) told k (0, Pending) Pending lt in
-    let inside : slice_index (map (λ (t : ℕ × Outcome). t.0) told) k < length old = subst (λ (n : ℕ). n < length old) (sym node) (within k (0, Pending) lt) in
-    subst (λ (o : Outcome). AreWritten (map (λ t. t.0) told) (map (λ t. t.1) told) (k + 1) old (set mid (slice_index_or told k (0, Pending)).0 o)) outcome
-    (subst (λ (n : ℕ). AreWritten (map (λ t. t.0) told) (map (λ t. t.1) told) (k + 1) old (set mid n (outcome_at (map (λ t. t.1) told) k))) node
-    (written-more (map (λ t. t.0) told) (map (λ t. t.1) told) k old mid inside are))
-
--- a node of a planned list is one of the formula's
-pub row-nodes : (f : List (Node × Position)) (rows : List (Vec ℕ)) (n : ℕ) (nodes : List ℕ) → nodes ≡ row_of rows n → AreOrdered f rows → (i : ℕ) → ContainsByRecursion i nodes → i < length f
-row-nodes f rows n nodes is ordered i found = ordered.within n i (subst (λ (xs : List ℕ). ContainsByRecursion i xs) is found)
+    written-more (map (λ t. t.0) told) (map (λ t. t.1) told) k old mid new (ap new node ∙ at ∙ sym outcome) (λ i apart. else i (λ is. apart (is ∙ sym node))) are

@@ -1,5 +1,5 @@
 -- The nodes that roots reach, by their levels: a leaf has level 0, another node one more than its highest child.
-use Rattle.std.specs.Prelude.{◌≡◌, ◌⊎◌, ◌↔◌, ℕ, suc, ◌<◌, ◌≤◌, max, List, [], ◌∷◌, Bool, false, IsTrue, length, map, slice_get, slice_index, slice_index_or, sum_by, Option, Some, None}
+use Rattle.std.specs.Prelude.{◌≡◌, ◌⊎◌, ◌↔◌, ℕ, zero, suc, ◌+◌, ◌<◌, ◌≤◌, max, List, [], ◌∷◌, length, map, slice_get, sum_by, Option, Some, None}
 use Rattle.std.specs.Global.{Vec}
 use Rattle.pt_sets.specs.Elements.{ContainsByRecursion}
 use Rattle.pt_formula.specs.declared.node.Node.{Node}
@@ -16,30 +16,38 @@ listed Nothing = []
 listed (One a) = a ∷ []
 listed (Two a b) = a ∷ b ∷ []
 
-abbrev pub IsMarked : List Bool → ℕ → Type 0
-IsMarked marks i = IsTrue (slice_index_or marks i false)
+-- some numbers are in a list besides
+pub record IsPushed (nodes old new : List ℕ) : Type 0 where
+  pub count : length new ≡ length old + length nodes
+  pub stays : (i : ℕ) → ContainsByRecursion i old → ContainsByRecursion i new
+  pub added : (i : ℕ) → ContainsByRecursion i nodes → ContainsByRecursion i new
+  pub only : (i : ℕ) → ContainsByRecursion i new → ContainsByRecursion i old ⊎ ContainsByRecursion i nodes
 
--- some nodes are marked besides
-pub record MarksMore (nodes : List ℕ) (old new : List Bool) : Type 0 where
-  pub count : length new ≡ length old
-  pub stays : (i : ℕ) → IsMarked old i → IsMarked new i
-  pub added : (i : ℕ) → ContainsByRecursion i nodes → IsMarked new i
-  pub only : (i : ℕ) → IsMarked new i → IsMarked old i ⊎ ContainsByRecursion i nodes
+-- the nodes that the roots reach, by number
+pub record AreReached (f : List (Node × Position)) (roots nodes : List ℕ) : Type 0 where
+  pub increasing : IsIncreasing nodes
+  pub within : (i : ℕ) → ContainsByRecursion i nodes → i < length f
+  pub each : (i : ℕ) → ContainsByRecursion i nodes ↔ IsReached f roots i
 
--- the nodes that the roots reach are marked
-pub record AreMarks (f : List (Node × Position)) (roots : List ℕ) (marks : List Bool) : Type 0 where
-  pub count : length marks ≡ length f
-  pub marked : (i : ℕ) → IsMarked marks i ↔ IsReached f roots i
+-- nodes by number, with the children of each
+pub record AreClosed (f : List (Node × Position)) (nodes : List ℕ) : Type 0 where
+  pub increasing : IsIncreasing nodes
+  pub within : (i : ℕ) → ContainsByRecursion i nodes → i < length f
+  pub children : (i c : ℕ) → ContainsByRecursion i nodes → ContainsByRecursion c (children (node_at f i)) → ContainsByRecursion c nodes
 
 -- one more than the greatest of the numbers, 0 where there are none
 abbrev pub above_all : List ℕ → ℕ
 above_all [] = 0
 above_all (n ∷ ns) = max (suc n) (above_all ns)
 
--- the levels of the first n nodes
-pub record AreLevels (f : List (Node × Position)) (n : ℕ) (levels : List ℕ) : Type 0 where
-  pub count : length levels ≡ n
-  pub each : (i : ℕ) → i < n → slice_index levels i ≡ above_all (map (slice_index levels) (children (node_at f i)))
+-- the level of a node that is less than n deep
+abbrev pub level_below : ℕ → List (Node × Position) → ℕ → ℕ
+level_below zero f i = 0
+level_below (suc n) f i = above_all (map (level_below n f) (children (node_at f i)))
+
+-- children come earlier, so a node is at most as deep as its number
+abbrev pub level_of : List (Node × Position) → ℕ → ℕ
+level_of f i = level_below (suc i) f i
 
 abbrev pub row_items : Option (Vec ℕ) → List ℕ
 row_items None = []
@@ -53,13 +61,6 @@ row_of rows y = row_items (slice_get rows y)
 abbrev pub total : List (Vec ℕ) → ℕ
 total rows = sum_by (λ row. length row.items) rows
 
--- the marked nodes below n, each in the list of its level, by number
-pub record AreRows (marks : List Bool) (levels : List ℕ) (n : ℕ) (rows : List (Vec ℕ)) : Type 0 where
-  pub sound : (l i : ℕ) → ContainsByRecursion i (row_of rows l) → IsMarked marks i × (i < n) × (slice_index levels i ≡ l)
-  pub complete : (i : ℕ) → i < n → IsMarked marks i → ContainsByRecursion i (row_of rows (slice_index levels i))
-  pub few : total rows ≤ n
-  pub increasing : (l : ℕ) → IsIncreasing (row_of rows l)
-
 -- a node of some list
 abbrev pub IsPlanned : List (Vec ℕ) → ℕ → Type 0
 IsPlanned rows i = (l : ℕ) × ContainsByRecursion i (row_of rows l)
@@ -70,11 +71,8 @@ pub record AreOrdered (f : List (Node × Position)) (rows : List (Vec ℕ)) : Ty
   pub children : (l i c : ℕ) → ContainsByRecursion i (row_of rows l) → ContainsByRecursion c (children (node_at f i)) → (m : ℕ) × (m < l) × ContainsByRecursion c (row_of rows m)
   pub few : total rows ≤ length f
 
--- the nodes that the roots reach, each in the list of its level, by number, and no others
-pub record IsPlan (f : List (Node × Position)) (roots : List ℕ) (rows : List (Vec ℕ)) : Type 0 where
-  pub levels : List ℕ
-  pub are_levels : AreLevels f (length f) levels
-  pub few : total rows ≤ length f
+-- the nodes, each in the list of its level, by number, and no others
+pub record IsPlan (f : List (Node × Position)) (nodes : List ℕ) (rows : List (Vec ℕ)) : Type 0 where
+  pub few : total rows ≤ length nodes
   pub increasing : (l : ℕ) → IsIncreasing (row_of rows l)
-  pub within : (i : ℕ) → IsReached f roots i → i < length f
-  pub planned : (l i : ℕ) → ContainsByRecursion i (row_of rows l) ↔ (IsReached f roots i × (slice_index levels i ≡ l))
+  pub planned : (l i : ℕ) → ContainsByRecursion i (row_of rows l) ↔ (ContainsByRecursion i nodes × (level_of f i ≡ l))

@@ -1,5 +1,6 @@
 -- What is known of a node while a formula is evaluated.
-use Rattle.std.specs.Prelude.{◌≡◌, ◌⊎◌, ℕ, ◌<◌, ◌≤◌, List, length, slice_index, slice_index_or}
+use Rattle.std.specs.Prelude.{◌≡◌, ◌⊎◌, ℕ, ◌<◌, ◌≤◌, List, length, nat_eq, slice_index, slice_index_or, unwrap_or}
+use Rattle.std.specs.HashMap.{HashMap, get}
 use Rattle.pt_sets.specs.Elements.{ContainsByRecursion}
 use Rattle.pt_sets.specs.Lists.{Lists, Home}
 use Rattle.pt_store.specs.declared.fault.StoreFault.{StoreFault}
@@ -54,21 +55,24 @@ known h = Known h
 abbrev pub costly : Outcome
 costly = Costly
 
--- the outcome of node i in a list with one for each node
-abbrev pub outcome_at : List Outcome → ℕ → Outcome
-outcome_at outcomes i = slice_index_or outcomes i Pending
+-- what a map of outcomes says of node i
+abbrev pub outcome_in : {S : Type 0} → HashMap ℕ Outcome S → ℕ → Outcome
+outcome_in m i = unwrap_or (get nat_eq m i) Pending
 
--- one outcome for each node, and each is right
-pub record AreOutcomes (home : Home) (lists : Lists) (f : List (Node × Position)) (bound : ℕ) (outcomes : List Outcome) : Type 0 where
-  pub count : length outcomes ≡ length f
-  pub each : (i : ℕ) → IsOutcome home lists f bound i (outcome_at outcomes i)
+-- the outcome at place k of a list
+abbrev pub outcome_at : List Outcome → ℕ → Outcome
+outcome_at outcomes k = slice_index_or outcomes k Pending
+
+-- what is said of each node is right
+abbrev pub AreOutcomes : Home → Lists → List (Node × Position) → ℕ → (ℕ → Outcome) → Type 0
+AreOutcomes home lists f bound outcomes = (i : ℕ) → IsOutcome home lists f bound i (outcomes i)
 
 -- all children of the node are done with
-abbrev pub HasSettledChildren : List (Node × Position) → List Outcome → ℕ → Type 0
-HasSettledChildren f outcomes i = (c : ℕ) → ContainsByRecursion c (children (node_at f i)) → IsSettled (outcome_at outcomes c)
+abbrev pub HasSettledChildren : List (Node × Position) → (ℕ → Outcome) → ℕ → Type 0
+HasSettledChildren f outcomes i = (c : ℕ) → ContainsByRecursion c (children (node_at f i)) → IsSettled (outcomes c)
 
 -- the work at the node may begin: its children are done with, and what is known of all nodes is right
-pub record MayBegin (home : Home) (lists : Lists) (f : List (Node × Position)) (bound : ℕ) (outcomes : List Outcome) (i : ℕ) : Type 0 where
+pub record MayBegin (home : Home) (lists : Lists) (f : List (Node × Position)) (bound : ℕ) (outcomes : ℕ → Outcome) (i : ℕ) : Type 0 where
   pub are : AreOutcomes home lists f bound outcomes
   pub inside : i < length f
   pub ready : HasSettledChildren f outcomes i
@@ -76,7 +80,7 @@ pub record MayBegin (home : Home) (lists : Lists) (f : List (Node × Position)) 
   pub few : bound ≤ 65536
 
 -- nodes whose children are done with
-abbrev pub AreReady : List (Node × Position) → List Outcome → List ℕ → Type 0
+abbrev pub AreReady : List (Node × Position) → (ℕ → Outcome) → List ℕ → Type 0
 AreReady f outcomes nodes = (k : ℕ) → k < length nodes → (slice_index nodes k < length f) × HasSettledChildren f outcomes (slice_index nodes k)
 
 -- a right outcome with which the node is done
@@ -94,7 +98,6 @@ RefusesWhere P f bound home limit lists (Full shard count) = IsFullAt limit list
 RefusesWhere P f bound home limit lists NoMemory = Unit {0}
 
 -- the first n results stand at their nodes, all else is as it was
-pub record AreWritten (nodes : List ℕ) (results : List Outcome) (n : ℕ) (old new : List Outcome) : Type 0 where
-  pub count : length new ≡ length old
-  pub each : (i : ℕ) → (outcome_at new i ≡ outcome_at old i) ⊎ ((k : ℕ) × (k < n) × (slice_index nodes k ≡ i) × (outcome_at new i ≡ outcome_at results k))
-  pub written : (k : ℕ) → k < n → (m : ℕ) × (m < n) × (slice_index nodes m ≡ slice_index nodes k) × (outcome_at new (slice_index nodes k) ≡ outcome_at results m)
+pub record AreWritten (nodes : List ℕ) (results : List Outcome) (n : ℕ) (old new : ℕ → Outcome) : Type 0 where
+  pub each : (i : ℕ) → (new i ≡ old i) ⊎ ((k : ℕ) × (k < n) × (slice_index nodes k ≡ i) × (new i ≡ outcome_at results k))
+  pub written : (k : ℕ) → k < n → (m : ℕ) × (m < n) × (slice_index nodes m ≡ slice_index nodes k) × (new (slice_index nodes k) ≡ outcome_at results m)

@@ -1,23 +1,27 @@
 // Evaluation of the roots of a formula.
-ghost use Rattle.std.specs.Prelude.{◌≡◌, ◌≢◌, ◌↔◌, ℕ, ◌+◌, ◌*◌, ◌<◌, ◌≤◌, length, map, slice_get, slice_index, All, Some, IfOk, IfErr, OnOk, IfSome, IfNone};
+ghost use Rattle.std.specs.Prelude.{◌≡◌, ◌≢◌, ◌↔◌, ℕ, ◌+◌, ◌*◌, ◌<◌, ◌≤◌, length, map, slice_get, slice_index, Some, IfOk, IfErr, OnOk, IfSome, IfNone};
 ghost use Rattle.std.specs.List.{AllByRecursion};
+ghost use Rattle.pt_sets.specs.Elements.{ContainsByRecursion};
 ghost use Rattle.pt_sets.specs.Lists.{Extends};
+ghost use Rattle.pt_formula.specs.Forms.{IsIncreasing};
 ghost use Rattle.pt_formula.specs.Costs.{NoneRefused};
 ghost use Rattle.pt_handles.specs.declared.handle.Handle.{Handle as HandleValue};
 ghost use Rattle.pt_eval.specs.Evaluating.{HaveSolutions, KnowsReached, HaveFewResiduals, RefusesRoots, RefusesOneOf};
 ghost use Rattle.pt_eval.specs.Levels.{AreOrdered, IsPlanned};
-ghost use Rattle.pt_eval.specs.Outcomes.{AreOutcomes, AreWritten, IsSettled, RefusesWhere, costly, known, outcome_at};
+ghost use Rattle.pt_eval.specs.Outcomes.{AreOutcomes, AreWritten, IsSettled, RefusesWhere, costly, known, outcome_in};
 
 use crate::fault::EvalFault;
 use crate::gate::Gate;
 use crate::level::Level;
-use crate::levels::plan;
-use crate::outcome::Outcome;
+use crate::levels::level_rows;
+use crate::outcome::{Outcome, Outcomes, outcome_of};
+use crate::reaching::reached;
 use pt_formula::{Formula, NodeId};
 use pt_handles::{Handle, longer_lists_know};
 use pt_store::{Codes, Interner, Sharing, StoreFault};
 use pt_workers::share;
 use std::alloc::{AllocError, Global};
+use std::collections::HashMap;
 use std::thread::Threads;
 
 /// For each root a known handle of its solutions: the integer vectors over its free variables, in increasing order, one
@@ -37,7 +41,8 @@ use std::thread::Threads;
 /// that of no descendant is. The first of these that comes in this order is answered. With each answer the lists of the
 /// pass extend the old ones, and at most the formula's length times the bound codes were offered.
 ///
-/// Besides the operations at the nodes the time is linear in the formula's length.
+/// Besides the operations at the nodes it takes n log n steps and memory for n nodes where the roots reach n nodes, whatever
+/// the formula's length.
 pub fn evaluate<I: Sharing, G: Gate, R: Threads + Sync>(
     rt: &R,
     alloc: Global,
@@ -68,21 +73,22 @@ where
     ensures offers { I.Pass.offered pass.new ≤ I.Pass.offered pass.old + length formula.now * bound }
 {
     formula.is_formula();
-    let rows = plan(alloc, formula, roots)?;
+    let nodes = reached(alloc, formula, roots)?;
+    let rows = level_rows(alloc, formula, &nodes)?;
     let outcomes = match evaluate_rows(
         rt, alloc, store, pass, formula, bound, workers, gate, &rows,
     ) {
         Ok(outcomes) => outcomes,
         Err(fault) => return Err(EvalFault::from(fault)),
     };
-    if let Some(node) = first_costly(&outcomes) {
+    if let Some(node) = first_costly(&nodes, &outcomes) {
         return Err(EvalFault::States { node });
     }
     let handles = handles_of(alloc, &outcomes, roots)?;
     Ok(handles)
 }
 
-/// The outcome of each node in the lists, evaluated list by list; of the others none yet.
+/// The outcome of each node in the lists, evaluated list by list.
 fn evaluate_rows<I: Sharing, G: Gate, R: Threads + Sync>(
     rt: &R,
     alloc: Global,
@@ -93,7 +99,7 @@ fn evaluate_rows<I: Sharing, G: Gate, R: Threads + Sync>(
     workers: u32,
     gate: &G,
     rows: &[Vec<NodeId>],
-) -> Result<Vec<Outcome>, StoreFault>
+) -> Result<Outcomes, StoreFault>
 where
     I::Pass: Send,
     requires owned { I.owns store.now pass.old }
@@ -103,15 +109,13 @@ where
     requires some_worker { 0 < workers }
     ensures kept { I.owns store.now pass.new }
     ensures extends { Extends (I.Pass.lists pass.old) (I.Pass.lists pass.new) }
-    ensures outcomes { IfOk result (λ outcomes. AreOutcomes I.Pass.home (I.Pass.lists pass.new) formula.now bound outcomes.items) }
-    ensures settled { IfOk result (λ outcomes. (i : ℕ) → IsSettled (outcome_at outcomes.items i) ↔ IsPlanned rows.now i) }
+    ensures outcomes { IfOk result (λ outcomes. AreOutcomes I.Pass.home (I.Pass.lists pass.new) formula.now bound (outcome_in outcomes)) }
+    ensures settled { IfOk result (λ outcomes. (i : ℕ) → IsSettled (outcome_in outcomes i) ↔ IsPlanned rows.now i) }
     ensures err { IfErr result (RefusesWhere (IsPlanned rows.now) formula.now bound I.Pass.home (I.limit_of store.now) (I.Pass.lists pass.new)) }
     ensures offers { I.Pass.offered pass.new ≤ I.Pass.offered pass.old + length formula.now * bound }
 {
     longer_lists_know();
-    let Ok(mut outcomes) = pending(alloc, formula.len()) else {
-        return Err(StoreFault::NoMemory);
-    };
+    let mut outcomes = HashMap::new(alloc);
     for row in rows {
         let level = Level {
             formula,
@@ -119,42 +123,38 @@ where
             gate,
             outcomes: &outcomes,
         };
-        match share(rt, alloc, store, pass, &level, row, workers) {
-            Ok(told) => write_results(&mut outcomes, &told),
+        let told = match share(rt, alloc, store, pass, &level, row, workers) {
+            Ok(told) => told,
             Err(fault) => return Err(fault),
-        }
+        };
+        let Ok(()) = write_results(&mut outcomes, &told) else {
+            return Err(StoreFault::NoMemory);
+        };
     }
     Ok(outcomes)
 }
 
-/// So many outcomes of which nothing is known.
-fn pending(alloc: Global, count: u32) -> Result<Vec<Outcome>, AllocError>
-    ensures count { IfOk result (λ outcomes. length outcomes.items ≡ count) }
-    ensures pending { IfOk result (λ outcomes. (i : ℕ) → IsSettled (outcome_at outcomes.items i) → ⊥) }
-{
-    vec![in alloc; Outcome::Pending; count as usize]
-}
-
 /// Puts each result at its node.
-fn write_results(outcomes: &mut Vec<Outcome>, told: &[(NodeId, Outcome)])
-    requires { All (λ t. t.0 < length outcomes.old.items) told.now }
-    ensures { AreWritten (map (λ t. t.0) told.now) (map (λ t. t.1) told.now) (length told.now) outcomes.old.items outcomes.new.items }
+fn write_results(outcomes: &mut Outcomes, told: &[(NodeId, Outcome)]) -> Result<(), AllocError>
+    ensures { OnOk result (AreWritten (map (λ t. t.0) told.now) (map (λ t. t.1) told.now) (length told.now) (outcome_in outcomes.old) (outcome_in outcomes.new)) }
 {
     for (node, outcome) in told {
-        outcomes[*node as usize] = *outcome;
+        outcomes.insert(*node, *outcome)?;
     }
+    Ok(())
 }
 
-/// The first node whose cost is over the bound.
-fn first_costly(outcomes: &[Outcome]) -> Option<NodeId>
-    requires { length outcomes.now ≤ 65536 }
-    ensures some { IfSome result (λ i. outcome_at outcomes.now i ≡ costly) }
-    ensures first { IfSome result (λ i. (j : ℕ) → outcome_at outcomes.now j ≡ costly → i ≤ j) }
-    ensures none { IfNone result ((j : ℕ) → outcome_at outcomes.now j ≢ costly) }
+/// The first of the nodes whose cost is over the bound.
+fn first_costly(nodes: &[NodeId], outcomes: &Outcomes) -> Option<NodeId>
+    requires { IsIncreasing nodes.now }
+    ensures some { IfSome result (λ i. outcome_in outcomes.now i ≡ costly) }
+    ensures among { IfSome result (λ i. ContainsByRecursion i nodes.now) }
+    ensures first { IfSome result (λ i. (j : ℕ) → ContainsByRecursion j nodes.now → outcome_in outcomes.now j ≡ costly → i ≤ j) }
+    ensures none { IfNone result ((j : ℕ) → ContainsByRecursion j nodes.now → outcome_in outcomes.now j ≢ costly) }
 {
-    for (i, outcome) in outcomes.iter().enumerate() {
-        if matches!(outcome, Outcome::Costly) {
-            return Some(i as u32);
+    for node in nodes {
+        if matches!(outcome_of(outcomes, *node), Outcome::Costly) {
+            return Some(*node);
         }
     }
     None
@@ -163,17 +163,16 @@ fn first_costly(outcomes: &[Outcome]) -> Option<NodeId>
 /// The handle of each root, of which all are known.
 fn handles_of(
     alloc: Global,
-    outcomes: &[Outcome],
+    outcomes: &Outcomes,
     roots: &[NodeId],
 ) -> Result<Vec<Handle>, AllocError>
-    requires roots { AllByRecursion (λ root. root < length outcomes.now) roots.now }
-    requires known { AllByRecursion (λ root. (h : HandleValue) × (outcome_at outcomes.now root ≡ known h)) roots.now }
+    requires { AllByRecursion (λ root. (h : HandleValue) × (outcome_in outcomes.now root ≡ known h)) roots.now }
     ensures count { IfOk result (λ handles. length handles.items ≡ length roots.now) }
-    ensures each { IfOk result (λ handles. (k : ℕ) (h : HandleValue) → slice_get handles.items k ≡ Some h → outcome_at outcomes.now (slice_index roots.now k) ≡ known h) }
+    ensures each { IfOk result (λ handles. (k : ℕ) (h : HandleValue) → slice_get handles.items k ≡ Some h → outcome_in outcomes.now (slice_index roots.now k) ≡ known h) }
 {
     let mut handles = Vec::new(alloc);
     for root in roots {
-        handles.push(known_handle(outcomes[*root as usize]))?;
+        handles.push(known_handle(outcome_of(outcomes, *root)))?;
     }
     Ok(handles)
 }

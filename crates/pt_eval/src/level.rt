@@ -1,11 +1,11 @@
 // The nodes of one level, as work that is done by number.
 ghost use Rattle.std.specs.Prelude.{◌<◌, ◌≤◌, length};
 ghost use Rattle.pt_eval.specs.Evaluating.{IsCheap, LacksSolutions};
-ghost use Rattle.pt_eval.specs.Outcomes.{MayBegin, IsResult};
+ghost use Rattle.pt_eval.specs.Outcomes.{MayBegin, IsResult, outcome_in};
 
 use crate::gate::Gate;
 use crate::node::evaluate_node;
-use crate::outcome::Outcome;
+use crate::outcome::{Outcome, Outcomes};
 use pt_formula::{Formula, NodeId};
 use pt_handles::longer_lists_know;
 use pt_store::{Interner, StoreFault};
@@ -20,13 +20,13 @@ pub(crate) struct Level<'a, G> {
     pub formula: &'a Formula,
     pub bound: u32,
     pub gate: &'a G,
-    pub outcomes: &'a [Outcome],
+    pub outcomes: &'a Outcomes,
 }
 
 impl<'a, G: Gate> Work for Level<'a, G> {
     type Answer = Outcome;
 
-    ghost may_begin = { λ l home lists i. MayBegin home lists l.formula.now l.bound l.outcomes.now i };
+    ghost may_begin = { λ l home lists i. MayBegin home lists l.formula.now l.bound (outcome_in l.outcomes.now) i };
 
     ghost gives = { λ l home lists i outcome. IsResult home lists l.formula.now l.bound i outcome };
 

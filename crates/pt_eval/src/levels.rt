@@ -1,13 +1,13 @@
 // The nodes that roots reach, by their levels.
-ghost use Rattle.std.specs.Prelude.{◌≡◌, ◌≢◌, ◌+◌, ◌<◌, ◌≤◌, ℕ, [], ◌∷◌, ◌++◌, length, map, slice_index, IfOk, OnOk};
+ghost use Rattle.std.specs.Prelude.{◌≡◌, ◌≢◌, ◌+◌, ◌<◌, ◌≤◌, ℕ, [], ◌∷◌, ◌++◌, length, nat_eq, Some, IfOk, OnOk};
+ghost use Rattle.std.specs.HashMap.{get};
 ghost use Rattle.std.specs.List.{AllByRecursion};
-ghost use Rattle.pt_formula.specs.Formulas.{children};
-ghost use Rattle.pt_eval.specs.Levels.{listed, above_all, AreMarks, AreLevels, AreRows, IsPlan, row_of, total};
+ghost use Rattle.pt_formula.specs.Formulas.{children, node_at};
+ghost use Rattle.pt_eval.specs.Levels.{listed, level_of, AreClosed, IsPlan, row_of, total};
 
-use crate::marks::mark_reached;
 use pt_formula::{Formula, Node, NodeId};
-use pt_tables::NoMemory;
 use std::alloc::{AllocError, Global};
+use std::collections::HashMap;
 
 /// The children of a node.
 #[derive(Clone, Copy)]
@@ -38,43 +38,43 @@ pub(crate) fn children_of(node: &Node) -> Children
     }
 }
 
+/// The level that a node is known to have.
+fn known_level(levels: &HashMap<NodeId, u32>, node: NodeId) -> u32
+    requires { (l : ℕ) × (get nat_eq levels.now node ≡ Some l) }
+    ensures { get nat_eq levels.now node ≡ Some result }
+{
+    match levels.get(&node) {
+        Some(level) => *level,
+        None => unreachable!(),
+    }
+}
+
 /// The level of a node: one more than the highest of its children, 0 without children.
-fn level(children: Children, levels: &[u32]) -> u32
-    requires children { AllByRecursion (λ c. c < length levels.now) (listed children) }
-    requires small { (i : ℕ) → slice_index levels.now i ≤ 65536 }
-    ensures { result ≡ above_all (map (slice_index levels.now) (listed children)) }
+fn level(formula: &Formula, node: NodeId, levels: &HashMap<NodeId, u32>) -> u32
+    requires inside { node < length formula.now }
+    requires children { AllByRecursion (λ c. get nat_eq levels.now c ≡ Some (level_of formula.now c)) (children (node_at formula.now node)) }
+    ensures { result ≡ level_of formula.now node }
 {
-    match children {
+    formula.is_formula();
+    match children_of(formula.node(node)) {
         Children::Nothing => 0,
-        Children::One(a) => levels[a as usize] + 1,
-        Children::Two(a, b) => levels[a as usize].max(levels[b as usize]) + 1,
+        Children::One(a) => known_level(levels, a) + 1,
+        Children::Two(a, b) => known_level(levels, a).max(known_level(levels, b)) + 1,
     }
 }
 
-/// The level of each node. One pass, since children come earlier.
-fn level_list(alloc: Global, formula: &Formula) -> Result<Vec<u32>, AllocError>
-    ensures levels { IfOk result (λ levels. AreLevels formula.now (length formula.now) levels.items) }
-    ensures small { IfOk result (λ levels. (i : ℕ) → slice_index levels.items i ≤ 65536) }
+/// Makes an empty list where a list would be the next one.
+fn make_row(alloc: Global, rows: &mut Vec<Vec<NodeId>>, target: u32) -> Result<(), AllocError>
+    requires { target ≤ length rows.old.items }
+    ensures made { OnOk result (target < length rows.new.items) }
+    ensures longer { OnOk result (length rows.old.items ≤ length rows.new.items) }
+    ensures same { OnOk result ((y : ℕ) → row_of rows.new.items y ≡ row_of rows.old.items y) }
+    ensures total { OnOk result (total rows.new.items ≡ total rows.old.items) }
 {
-    let mut levels = Vec::new(alloc);
-    for id in 0..formula.len() {
-        let next = level(children_of(formula.node(id)), &levels);
-        levels.push(next)?;
-    }
-    Ok(levels)
-}
-
-/// So many empty lists.
-fn empty_rows(alloc: Global, count: u32) -> Result<Vec<Vec<NodeId>>, AllocError>
-    ensures count { IfOk result (λ rows. length rows.items ≡ count) }
-    ensures empty { IfOk result (λ rows. (y : ℕ) → row_of rows.items y ≡ []) }
-    ensures total { IfOk result (λ rows. total rows.items ≡ 0) }
-{
-    let mut rows = Vec::new(alloc);
-    for _ in 0..count {
+    if rows.len() == target as usize {
         rows.push(Vec::new(alloc))?;
     }
-    Ok(rows)
+    Ok(())
 }
 
 /// Puts a node last in one of the lists.
@@ -89,50 +89,23 @@ fn add_node(rows: &mut Vec<Vec<NodeId>>, target: u32, node: NodeId) -> Result<()
     Ok(())
 }
 
-/// The marked nodes, each in the list of its level, by number.
-fn level_rows(
-    alloc: Global,
-    marks: &[bool],
-    levels: &[u32],
-    height: u32,
-) -> Result<Vec<Vec<NodeId>>, AllocError>
-    requires count { length marks.now ≡ length levels.now }
-    requires few { length marks.now ≤ 65536 }
-    requires height { (i : ℕ) → i < length levels.now → slice_index levels.now i < height }
-    ensures { IfOk result (λ rows. AreRows marks.now levels.now (length marks.now) rows.items) }
-{
-    let mut rows = empty_rows(alloc, height)?;
-    for id in 0..marks.len() {
-        if marks[id] {
-            add_node(&mut rows, levels[id], id as u32)?;
-        }
-    }
-    Ok(rows)
-}
-
-/// One more than the greatest of the levels.
-fn height(levels: &[u32]) -> u32
-    requires { (i : ℕ) → slice_index levels.now i ≤ 65536 }
-    ensures { (i : ℕ) → i < length levels.now → slice_index levels.now i < result }
-{
-    match levels.iter().copied().max() {
-        Some(greatest) => greatest + 1,
-        None => 0,
-    }
-}
-
-/// The nodes that the roots reach, each in the list of its level, those of one level by number. Linear in the formula.
-pub(crate) fn plan(
+/// The nodes, each in the list of its level, those of one level by number. One pass, since children come earlier.
+pub(crate) fn level_rows(
     alloc: Global,
     formula: &Formula,
-    roots: &[NodeId],
-) -> Result<Vec<Vec<NodeId>>, NoMemory>
-    requires { AllByRecursion (λ root. root < length formula.now) roots.now }
-    ensures { IfOk result (λ rows. IsPlan formula.now roots.now rows.items) }
+    nodes: &[NodeId],
+) -> Result<Vec<Vec<NodeId>>, AllocError>
+    requires { AreClosed formula.now nodes.now }
+    ensures { IfOk result (λ rows. IsPlan formula.now nodes.now rows.items) }
 {
     formula.is_formula();
-    let marks = mark_reached(alloc, formula, roots)?;
-    let levels = level_list(alloc, formula)?;
-    let rows = level_rows(alloc, &marks, &levels, height(&levels))?;
+    let mut levels = HashMap::new(alloc);
+    let mut rows = Vec::new(alloc);
+    for node in nodes {
+        let own = level(formula, *node, &levels);
+        levels.insert(*node, own)?;
+        make_row(alloc, &mut rows, own)?;
+        add_node(&mut rows, own, *node)?;
+    }
     Ok(rows)
 }

@@ -7,9 +7,9 @@ mod gate;
 mod laws;
 mod level;
 mod levels;
-mod marks;
 mod node;
 mod outcome;
+mod reaching;
 mod tables;
 mod tracks;
 

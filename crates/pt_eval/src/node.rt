@@ -4,10 +4,10 @@ ghost use Rattle.pt_sets.specs.Automata.{IsReduced};
 ghost use Rattle.pt_sets.specs.Lists.{Extends};
 ghost use Rattle.pt_formula.specs.declared.node.Node.TheVariants.{Not as NotNode, Exists as ExistsNode};
 ghost use Rattle.pt_formula.specs.Formulas.{node_at, op_node, tree_of};
-ghost use Rattle.pt_eval.specs.Outcomes.{AreOutcomes, HasSettledChildren, IsCheapBelow, IsRefusal, IsResult, IsSettled, RefusesWhere, known};
+ghost use Rattle.pt_eval.specs.Outcomes.{AreOutcomes, HasSettledChildren, IsCheapBelow, IsRefusal, IsResult, IsSettled, RefusesWhere, known, outcome_in};
 ghost use Rattle.pt_eval.specs.Parts.{IsTableOf, RefusesTree};
 
-use crate::outcome::Outcome;
+use crate::outcome::{Outcome, Outcomes, outcome_of};
 use crate::tables::{atom_solutions, binary_solutions, exists_solutions, truth_solutions};
 use crate::tracks::track;
 use pt_formula::laws::{
@@ -22,12 +22,12 @@ use std::alloc::Global;
 use std::thread::Threads;
 
 /// The handle of an evaluated node; None where it is refused or left out.
-fn handle_of(outcome: Outcome) -> Option<Handle>
-    requires { IsSettled outcome }
-    ensures some { IfSome result (λ h. outcome ≡ known h) }
-    ensures none { IfNone result (IsRefusal outcome) }
+fn handle_of(outcomes: &Outcomes, node: NodeId) -> Option<Handle>
+    requires { IsSettled (outcome_in outcomes.now node) }
+    ensures some { IfSome result (λ h. outcome_in outcomes.now node ≡ known h) }
+    ensures none { IfNone result (IsRefusal (outcome_in outcomes.now node)) }
 {
-    match outcome {
+    match outcome_of(outcomes, node) {
         Outcome::Known(handle) => Some(handle),
         _ => None,
     }
@@ -109,15 +109,15 @@ fn evaluate_not<I: Interner, R: Threads + Sync>(
     pass: &mut I::Pass,
     formula: &Formula,
     bound: u32,
-    outcomes: &[Outcome],
+    outcomes: &Outcomes,
     id: NodeId,
     a: NodeId,
 ) -> Result<Outcome, StoreFault>
     requires owned { I.owns store.now pass.old }
-    requires outcomes { AreOutcomes I.Pass.home (I.Pass.lists pass.old) formula.now bound outcomes.now }
+    requires outcomes { AreOutcomes I.Pass.home (I.Pass.lists pass.old) formula.now bound (outcome_in outcomes.now) }
     requires id { id < length formula.now }
     requires node { node_at formula.now id ≡ NotNode a }
-    requires ready { HasSettledChildren formula.now outcomes.now id }
+    requires ready { HasSettledChildren formula.now (outcome_in outcomes.now) id }
     ensures kept { I.owns store.now pass.new }
     ensures extends { Extends (I.Pass.lists pass.old) (I.Pass.lists pass.new) }
     ensures ok { IfOk result (IsResult I.Pass.home (I.Pass.lists pass.new) formula.now bound id) }
@@ -126,7 +126,7 @@ fn evaluate_not<I: Interner, R: Threads + Sync>(
 {
     trees_are_made_of_those_of_the_children();
     formula.is_formula();
-    let Some(child) = handle_of(outcomes[a as usize]) else {
+    let Some(child) = handle_of(outcomes, a) else {
         return Ok(Outcome::LeftOut);
     };
     match complement(rt, alloc, store, pass, child) {
@@ -143,17 +143,17 @@ fn evaluate_binary<I: Interner, R: Threads + Sync>(
     pass: &mut I::Pass,
     formula: &Formula,
     bound: u32,
-    outcomes: &[Outcome],
+    outcomes: &Outcomes,
     id: NodeId,
     op: Op,
     a: NodeId,
     b: NodeId,
 ) -> Result<Outcome, StoreFault>
     requires owned { I.owns store.now pass.old }
-    requires outcomes { AreOutcomes I.Pass.home (I.Pass.lists pass.old) formula.now bound outcomes.now }
+    requires outcomes { AreOutcomes I.Pass.home (I.Pass.lists pass.old) formula.now bound (outcome_in outcomes.now) }
     requires id { id < length formula.now }
     requires node { node_at formula.now id ≡ op_node op a b }
-    requires ready { HasSettledChildren formula.now outcomes.now id }
+    requires ready { HasSettledChildren formula.now (outcome_in outcomes.now) id }
     requires some { 0 < bound }
     requires few { bound ≤ 65536 }
     ensures kept { I.owns store.now pass.new }
@@ -163,10 +163,10 @@ fn evaluate_binary<I: Interner, R: Threads + Sync>(
     ensures offers { I.Pass.offered pass.new ≤ I.Pass.offered pass.old + bound }
 {
     formula.is_formula();
-    let Some(left) = handle_of(outcomes[a as usize]) else {
+    let Some(left) = handle_of(outcomes, a) else {
         return Ok(Outcome::LeftOut);
     };
-    let Some(right) = handle_of(outcomes[b as usize]) else {
+    let Some(right) = handle_of(outcomes, b) else {
         return Ok(Outcome::LeftOut);
     };
     let made = binary_solutions(alloc, &*pass, formula, id, op, a, b, left, right, bound);
@@ -181,16 +181,16 @@ fn evaluate_exists<I: Interner, R: Threads + Sync>(
     pass: &mut I::Pass,
     formula: &Formula,
     bound: u32,
-    outcomes: &[Outcome],
+    outcomes: &Outcomes,
     id: NodeId,
     v: Var,
     a: NodeId,
 ) -> Result<Outcome, StoreFault>
     requires owned { I.owns store.now pass.old }
-    requires outcomes { AreOutcomes I.Pass.home (I.Pass.lists pass.old) formula.now bound outcomes.now }
+    requires outcomes { AreOutcomes I.Pass.home (I.Pass.lists pass.old) formula.now bound (outcome_in outcomes.now) }
     requires id { id < length formula.now }
     requires node { node_at formula.now id ≡ ExistsNode v a }
-    requires ready { HasSettledChildren formula.now outcomes.now id }
+    requires ready { HasSettledChildren formula.now (outcome_in outcomes.now) id }
     requires some { 0 < bound }
     requires few { bound ≤ 65536 }
     ensures kept { I.owns store.now pass.new }
@@ -202,7 +202,7 @@ fn evaluate_exists<I: Interner, R: Threads + Sync>(
     truth_depends_on_free_variables_alone();
     trees_are_made_of_those_of_the_children();
     formula.is_formula();
-    let Some(body) = handle_of(outcomes[a as usize]) else {
+    let Some(body) = handle_of(outcomes, a) else {
         return Ok(Outcome::LeftOut);
     };
     let variables = formula.variables(a);
@@ -224,13 +224,13 @@ pub(crate) fn evaluate_node<I: Interner, R: Threads + Sync>(
     pass: &mut I::Pass,
     formula: &Formula,
     bound: u32,
-    outcomes: &[Outcome],
+    outcomes: &Outcomes,
     id: NodeId,
 ) -> Result<Outcome, StoreFault>
     requires owned { I.owns store.now pass.old }
-    requires outcomes { AreOutcomes I.Pass.home (I.Pass.lists pass.old) formula.now bound outcomes.now }
+    requires outcomes { AreOutcomes I.Pass.home (I.Pass.lists pass.old) formula.now bound (outcome_in outcomes.now) }
     requires id { id < length formula.now }
-    requires ready { HasSettledChildren formula.now outcomes.now id }
+    requires ready { HasSettledChildren formula.now (outcome_in outcomes.now) id }
     requires some { 0 < bound }
     requires few { bound ≤ 65536 }
     ensures kept { I.owns store.now pass.new }

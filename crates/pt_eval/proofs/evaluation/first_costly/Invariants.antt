@@ -1,6 +1,7 @@
-use Rattle.std.proofs.Common.{◌≢◌, ◌<◌, ℕ}
-use Rattle.pt_eval.specs.Outcomes.{outcome_at, costly}
+use Rattle.std.proofs.Common.{◌≢◌, ℕ, take}
+use Rattle.pt_sets.specs.Elements.{ContainsByRecursion}
+use Rattle.pt_eval.specs.Outcomes.{outcome_in, costly}
 use Rattle.pt_eval.proofs.evaluation.first_costly.Given as goal
 
-abbrev pub invariant-loop-i : goal.invariant-loop-i
-invariant-loop-i l = (j : ℕ) → j < l.i → outcome_at l.outcomes j ≢ costly
+abbrev pub invariant-loop-node : goal.invariant-loop-node
+invariant-loop-node l = (j : ℕ) → ContainsByRecursion j (take l.node-index l.nodes) → outcome_in l.outcomes j ≢ costly

@@ -1,9 +1,7 @@
-use Rattle.std.proofs.Common.{◌≡◌, length}
-use Rattle.pt_eval.specs.Levels.{AreRows}
+use Rattle.std.proofs.Common.{take, nat_eq}
+use Rattle.std.specs.HashMap.{get}
+use Rattle.pt_eval.proofs.LevelLaws.{IsPlanning}
 use Rattle.pt_eval.proofs.levels.level_rows.Given as goal
 
-abbrev pub invariant-loop-id : goal.invariant-loop-id
-invariant-loop-id l = record {
-  count : length l.rows.items ≡ l.height;
-  rows : AreRows l.marks l.levels l.id l.rows.items;
-}
+abbrev pub invariant-loop-node : goal.invariant-loop-node
+invariant-loop-node l = IsPlanning l.formula (take l.node-index l.nodes) (get nat_eq l.levels) l.rows.items

@@ -1,9 +1,10 @@
+use Rattle.pt_eval.specs.Outcomes.{outcome_in}
 use Rattle.pt_eval.proofs.ToldLaws.{begins-longer, result-longer, lacks-longer}
 use Rattle.pt_eval.proofs.level.LevelWork.lasts.Goals as goal
 
 pub returns-clause-may_begin : goal.returns-clause-may_begin
 returns-clause-may_begin g c home old new number longer begins =
-    begins-longer c.longer_lists_know.ensures home old new longer c.args.self.now.formula.now c.args.self.now.bound c.args.self.now.outcomes.now number begins
+    begins-longer c.longer_lists_know.ensures home old new longer c.args.self.now.formula.now c.args.self.now.bound (outcome_in c.args.self.now.outcomes.now) number begins
 
 pub returns-clause-gives : goal.returns-clause-gives
 returns-clause-gives g c home old new number answer longer is =
