@@ -6,10 +6,10 @@ use pt_io::{RealSink, RealSource, Sink, Source};
 use pt_main::{Status, run};
 use pt_store::{Mixed, SharedStore};
 use std::alloc::Global;
-use std::env;
 use std::io::ErrorKind;
 use std::process::ExitCode;
 use std::thread::Threads;
+use std::{env, mem};
 
 const USAGE: &str =
     "usage: prestaf [--mode=solve|drill] [--workers=N] [--states=B] [--seed=N] [--size=K]";
@@ -44,7 +44,8 @@ fn words(rt: &HostRuntime) -> Result<Vec<String>, Status> {
     }
 }
 
-/// Answers the script of the source over a store of its own.
+/// Answers the script of the source over a store of its own. The process ends behind it and gives all its memory back at
+/// once, so the store is let go without a walk over its cells and codes.
 fn answer<S: Source, K: Sink, R: Threads + Sync>(
     rt: &R,
     alloc: Global,
@@ -53,7 +54,12 @@ fn answer<S: Source, K: Sink, R: Threads + Sync>(
     sink: &mut K,
 ) -> Status {
     match SharedStore::new(alloc, SHARDS, MAX_CODES, Mixed) {
-        Ok((store, mut pass)) => run(rt, alloc, words, source, sink, &Open, &store, &mut pass),
+        Ok((store, mut pass)) => {
+            let status = run(rt, alloc, words, source, sink, &Open, &store, &mut pass);
+            mem::forget(pass);
+            mem::forget(store);
+            status
+        }
         Err(_) => Status::NoMemory,
     }
 }

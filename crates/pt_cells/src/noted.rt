@@ -18,14 +18,15 @@ pub(crate) fn compare_all(one: &mut Vec<Walked>, other: &mut Vec<Walked>)
     }
 }
 
-/// Other notes of the same cells.
+/// Other notes of the same cells. The loop writes into room that is there and does nothing else, so that it costs little more
+/// than the bytes.
 pub(crate) fn notes_again(alloc: Global, walked: &mut Vec<Walked>) -> Result<Vec<Walked>, NoMemory>
     ensures same { walked.new.items ≡ walked.old.items }
     ensures ok { IfOk result (λ all. all.items ≡ walked.old.items) }
 {
     let mut all = Vec::with_capacity(alloc, walked.len())?;
     for k in 0..walked.len() {
-        all.push(walked[k].again())?;
+        all.push_reserved(walked[k].again());
     }
     Ok(all)
 }

@@ -5,7 +5,7 @@ ghost use Rattle.once_cell.specs.Once.{cell_name};
 use once_cell::race::{Note, OnceBox};
 use pt_code::NoMemory;
 use pt_shards::HashedCode;
-use std::alloc::Global;
+use std::alloc::{AllocError, Global};
 use std::marker::Model;
 
 /// A segment of N cells, each set once. Contracts see the names of its cells.
@@ -25,15 +25,19 @@ impl<const N: usize> Model for Segment<N> {
     ghost invariant = { λ s. length s.cells.items ≡ N };
 }
 
+/// Cells that are empty. They are collected, which writes them all in one go, and not pushed one by one.
+fn empty_cells(alloc: Global, count: usize) -> Result<Vec<OnceBox<HashedCode>>, AllocError>
+    ensures { IfOk result (λ cells. length cells.items ≡ count) }
+{
+    (0..count).map(|_| OnceBox::new(alloc)).collect(alloc)
+}
+
 impl<const N: usize> Segment<N> {
     /// A segment of N cells, which are empty.
     pub(crate) fn new(alloc: Global) -> Result<Segment<N>, NoMemory>
         ensures { IfOk result (λ s. length s ≡ N) }
     {
-        let mut cells = Vec::with_capacity(alloc, N)?;
-        for _ in 0..N {
-            cells.push(OnceBox::new(alloc))?;
-        }
+        let cells = empty_cells(alloc, N)?;
         Ok(Segment { cells })
     }
 

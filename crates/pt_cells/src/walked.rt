@@ -54,7 +54,7 @@ impl Walked {
         ensures result { result ≡ self.old }
     {
         Walked {
-            byte: self.byte,
+            byte: 0,
             note: self.note.again(),
         }
     }
