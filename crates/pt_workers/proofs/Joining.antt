@@ -39,9 +39,16 @@ both-err {A = A} limit old new P Q ns ms first second (Err fault) stays longer w
   ]
 ]
 
-pub reported-push : {P A : Type 0} (reports : List (Report P A)) (report : Report P A) → reported (reports ++ report ∷ []) ≡ reported reports ++ report.numbers.items
-reported-push {P = P} {A = A} reports report =
-    flat_map-append (λ (r : Report P A). r.numbers.items) reports (report ∷ []) ∙ ap (λ (ns : List ℕ). reported reports ++ ns) (append-nil report.numbers.items)
+-- with each report comes what its worker keeps, or there was no memory
+pub both-count : {A : Type 0} (n k more old new : ℕ) (first second result : Result (Vec (ℕ × A)) StoreFault) → more ≡ k + 1 → (old ≡ n + k) ⊎ (first ≡ Err no_memory) → (new ≡ old + 1) ⊎ (second ≡ Err no_memory) →
+    ((first ≡ Err no_memory) ⊎ (second ≡ Err no_memory) → result ≡ Err no_memory) → (new ≡ n + more) ⊎ (result ≡ Err no_memory)
+both-count n k more old new first second result size (inr none) two memory = inr (memory (inl none))
+both-count n k more old new first second result size (inl one) (inr none) memory = inr (memory (inr none))
+both-count n k more old new first second result size (inl one) (inl two) memory = inl (omega (arith, size, one, two))
+
+pub reported-push : {P M A : Type 0} (reports : List (Report P M A)) (report : Report P M A) → reported (reports ++ report ∷ []) ≡ reported reports ++ report.numbers.items
+reported-push {P = P} {M = M} {A = A} reports report =
+    flat_map-append (λ (r : Report P M A). r.numbers.items) reports (report ∷ []) ∙ ap (λ (ns : List ℕ). reported reports ++ ns) (append-nil report.numbers.items)
 
 pub offers-more : (f : ℕ → ℕ) (ns ms : List ℕ) (first old new : ℕ) → old ≤ first + sum_by f ns → new ≤ old + sum_by f ms → new ≤ first + sum_by f (ns ++ ms)
 offers-more f ns ms first old new before more = let whole = sum_by-append f ns ms in omega (arith, whole)

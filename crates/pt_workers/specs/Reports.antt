@@ -12,30 +12,32 @@ abbrev pub Each : {X Y : Type 0} → (X → Y → Type 0) → List X → List Y 
 Each {X = X} {Y = Y} R xs ys = (i : ℕ) (d : X) (e : Y) → i < length xs → R (slice_index_or xs i d) (slice_index_or ys i e)
 
 -- these numbers, with a new pass that has these lists
-pub record IsHandOf {P : Type 0} (owns : P → Type 0) (lists : P → Lists) (offered : P → ℕ) (old : Lists) (dealt : Vec ℕ) (hand : Hand P) : Type 0 where
+pub record IsHandOf {P M : Type 0} (owns : P → Type 0) (lists : P → Lists) (offered : P → ℕ) (old : Lists) (dealt : Vec ℕ) (hand : Hand P M) : Type 0 where
   pub owned : owns hand.pass
   pub same : lists hand.pass ≡ old
   pub fresh : offered hand.pass ≡ 0
   pub kept : hand.numbers ≡ dealt
 
--- a new pass, through which the work on each of the numbers may begin
-pub record IsReady {P : Type 0} (owns : P → Type 0) (lists : P → Lists) (offered : P → ℕ) (may_begin : Lists → ℕ → Type 0) (hand : Hand P) : Type 0 where
+-- a new pass, through which the work on each of the numbers may begin, and what is right for its lists
+pub record IsReady {P M : Type 0} (owns : P → Type 0) (lists : P → Lists) (offered : P → ℕ) (good : Lists → M → Type 0) (may_begin : Lists → ℕ → Type 0) (hand : Hand P M) : Type 0 where
   pub owned : owns hand.pass
   pub fresh : offered hand.pass ≡ 0
+  pub right : good (lists hand.pass) hand.kept
   pub begins : All (may_begin (lists hand.pass)) hand.numbers.items
 
 -- the numbers that were dealt, and what is told of them: an answer for each, or the refusal of the work on one
-pub record IsReportOf {P A : Type 0} (owns : P → Type 0) (lists : P → Lists) (offered : P → ℕ) (limit : ℕ) (gives : Lists → ℕ → A → Type 0) (lacks : Lists → ℕ → Type 0) (most : ℕ → ℕ) (dealt : Vec ℕ) (report : Report P A) : Type 0 where
+pub record IsReportOf {P M A : Type 0} (owns : P → Type 0) (lists : P → Lists) (offered : P → ℕ) (good : Lists → M → Type 0) (limit : ℕ) (gives : Lists → ℕ → A → Type 0) (lacks : Lists → ℕ → Type 0) (most : ℕ → ℕ) (dealt : Vec ℕ) (report : Report P M A) : Type 0 where
   pub kept : report.numbers ≡ dealt
   pub owned : owns report.pass
+  pub stays : good (lists report.pass) report.kept
   pub ok : IfOk report.told (λ told. AreTold (gives (lists report.pass)) dealt.items told.items)
   pub err : IfErr report.told (RefusesOnly limit (lists report.pass) (Some_of dealt.items (lacks (lists report.pass))))
   pub offers : offered report.pass ≤ sum_by most dealt.items
 
 -- a report of what a hand has
-pub record IsReportFor {P A : Type 0} (owns : P → Type 0) (lists : P → Lists) (offered : P → ℕ) (limit : ℕ) (gives : Lists → ℕ → A → Type 0) (lacks : Lists → ℕ → Type 0) (most : ℕ → ℕ) (hand : Hand P) (report : Report P A) : Type 0 where
-  pub is : IsReportOf owns lists offered limit gives lacks most hand.numbers report
+pub record IsReportFor {P M A : Type 0} (owns : P → Type 0) (lists : P → Lists) (offered : P → ℕ) (good : Lists → M → Type 0) (limit : ℕ) (gives : Lists → ℕ → A → Type 0) (lacks : Lists → ℕ → Type 0) (most : ℕ → ℕ) (hand : Hand P M) (report : Report P M A) : Type 0 where
+  pub is : IsReportOf owns lists offered good limit gives lacks most hand.numbers report
 
 -- the numbers of all reports
-abbrev pub reported : {P A : Type 0} → List (Report P A) → List ℕ
+abbrev pub reported : {P M A : Type 0} → List (Report P M A) → List ℕ
 reported reports = flat_map (λ report. report.numbers.items) reports

@@ -1,5 +1,5 @@
 // How the reports of workers become one.
-ghost use Rattle.std.specs.Prelude.{◌≡◌, ◌⊎◌, ◌+◌, ◌≤◌, ◌++◌, All, Ok, Err, sum_by, IfOk, IfErr};
+ghost use Rattle.std.specs.Prelude.{◌≡◌, ◌⊎◌, ◌+◌, ◌≤◌, ◌++◌, All, Ok, Err, length, sum_by, IfOk, IfErr};
 ghost use Rattle.pt_sets.specs.Lists.{Extends, IsWithin};
 ghost use Rattle.pt_store.specs.Interning.{no_memory};
 ghost use Rattle.pt_workers.specs.Works.{AreTold, RefusesOnly, Some_of};
@@ -31,19 +31,25 @@ fn both<A: Drop>(
     }
 }
 
-/// Joins the pass of one worker. Answers what it tells, or want of memory if its pass could not be joined.
+/// Joins the pass of one worker, and puts what it keeps last. Answers what it tells, or want of memory if its pass could not
+/// be joined or there is no room for what it keeps, which is lost then.
 fn join_one<I: Sharing, W: Work>(
     alloc: Global,
     store: &I,
     pass: &mut I::Pass,
     work: &W,
-    report: Report<I::Pass, W::Answer>,
+    kept: &mut Vec<W::Kept>,
+    report: Report<I::Pass, W::Kept, W::Answer>,
 ) -> Result<Vec<(u32, W::Answer)>, StoreFault>
     requires owned { I.owns store.now pass.old }
-    requires report { IsReportOf (I.owns store.now) I.Pass.lists I.Pass.offered (I.limit_of store.now) (W.gives work.now I.Pass.home) (W.lacks work.now I.Pass.home (I.limit_of store.now)) (W.most work.now) report.numbers report }
+    requires good { All (W.good work.now I.Pass.home (I.Pass.lists pass.old)) kept.old.items }
+    requires report { IsReportOf (I.owns store.now) I.Pass.lists I.Pass.offered (W.good work.now I.Pass.home) (I.limit_of store.now) (W.gives work.now I.Pass.home) (W.lacks work.now I.Pass.home (I.limit_of store.now)) (W.most work.now) report.numbers report }
     ensures kept { I.owns store.now pass.new }
     ensures within { IsWithin (I.limit_of store.now) (I.Pass.lists pass.new) }
     ensures extends { Extends (I.Pass.lists pass.old) (I.Pass.lists pass.new) }
+    ensures good { All (W.good work.now I.Pass.home (I.Pass.lists pass.new)) kept.new.items }
+    ensures longer { length kept.old.items ≤ length kept.new.items }
+    ensures count { (length kept.new.items ≡ length kept.old.items + 1) ⊎ (result ≡ Err no_memory) }
     ensures ok { IfOk result (λ told. AreTold (W.gives work.now I.Pass.home (I.Pass.lists pass.new)) report.numbers.items told.items) }
     ensures err { IfErr result (RefusesOnly (I.limit_of store.now) (I.Pass.lists pass.new) (Some_of report.numbers.items (W.lacks work.now I.Pass.home (I.limit_of store.now) (I.Pass.lists pass.new)))) }
     ensures offers { I.Pass.offered pass.new ≤ I.Pass.offered pass.old + sum_by (W.most work.now) report.numbers.items }
@@ -52,28 +58,37 @@ fn join_one<I: Sharing, W: Work>(
     full_lists_stay_full();
     let Report {
         pass: theirs,
+        kept: own,
         numbers: _,
         told,
     } = report;
     match store.join(alloc, pass, theirs) {
-        Ok(()) => told,
+        Ok(()) => match kept.push(own) {
+            Ok(()) => told,
+            Err(_) => Err(StoreFault::NoMemory),
+        },
         Err(_) => Err(StoreFault::NoMemory),
     }
 }
 
-/// Joins the pass of each worker, in their order, also where one of them refused. Answers what all of them tell; or want of
+/// Joins the pass of each worker, in their order, also where one of them refused, and puts what it keeps last. Answers what all of them tell; or want of
 /// memory, if some pass could not be joined or some worker had none; or the first full shard.
 pub(crate) fn join_each<I: Sharing, W: Work>(
     alloc: Global,
     store: &I,
     pass: &mut I::Pass,
     work: &W,
-    reports: Vec<Report<I::Pass, W::Answer>>,
+    kept: &mut Vec<W::Kept>,
+    reports: Vec<Report<I::Pass, W::Kept, W::Answer>>,
 ) -> Result<Vec<(u32, W::Answer)>, StoreFault>
     requires owned { I.owns store.now pass.old }
-    requires reports { All (λ report. IsReportOf (I.owns store.now) I.Pass.lists I.Pass.offered (I.limit_of store.now) (W.gives work.now I.Pass.home) (W.lacks work.now I.Pass.home (I.limit_of store.now)) (W.most work.now) report.numbers report) reports.items }
+    requires good { All (W.good work.now I.Pass.home (I.Pass.lists pass.old)) kept.old.items }
+    requires reports { All (λ report. IsReportOf (I.owns store.now) I.Pass.lists I.Pass.offered (W.good work.now I.Pass.home) (I.limit_of store.now) (W.gives work.now I.Pass.home) (W.lacks work.now I.Pass.home (I.limit_of store.now)) (W.most work.now) report.numbers report) reports.items }
     ensures kept { I.owns store.now pass.new }
     ensures extends { Extends (I.Pass.lists pass.old) (I.Pass.lists pass.new) }
+    ensures good { All (W.good work.now I.Pass.home (I.Pass.lists pass.new)) kept.new.items }
+    ensures longer { length kept.old.items ≤ length kept.new.items }
+    ensures count { (length kept.new.items ≡ length kept.old.items + length reports.items) ⊎ (result ≡ Err no_memory) }
     ensures ok { IfOk result (λ told. AreTold (W.gives work.now I.Pass.home (I.Pass.lists pass.new)) (reported reports.items) told.items) }
     ensures err { IfErr result (RefusesOnly (I.limit_of store.now) (I.Pass.lists pass.new) (Some_of (reported reports.items) (W.lacks work.now I.Pass.home (I.limit_of store.now) (I.Pass.lists pass.new)))) }
     ensures offers { I.Pass.offered pass.new ≤ I.Pass.offered pass.old + sum_by (W.most work.now) (reported reports.items) }
@@ -82,7 +97,7 @@ pub(crate) fn join_each<I: Sharing, W: Work>(
     full_lists_stay_full();
     let mut told = Ok(Vec::new(alloc));
     for report in reports {
-        let more = join_one(alloc, store, pass, work, report);
+        let more = join_one(alloc, store, pass, work, kept, report);
         told = both(told, more);
     }
     told

@@ -1,5 +1,5 @@
 // Work on one thread and on several: work that needs no store, and work that interns.
-ghost use Rattle.std.specs.Prelude.{◌≡◌, ◌*◌, ◌<◌, slice_get, IfSome, None, Some};
+ghost use Rattle.std.specs.Prelude.{◌≡◌, ◌*◌, ◌<◌, length, slice_get, IfOk, IfSome, None, Some};
 ghost use Rattle.std.specs.Arc.{arc_value};
 ghost use Rattle.pt_sets.specs.Lists.{Lists, find, Extends, IsWithin};
 
@@ -17,6 +17,10 @@ struct Doubles;
 impl Work for Doubles {
     type Answer = u64;
 
+    type Kept = u32;
+
+    ghost good = { λ _ _ _ _. Unit {0} };
+
     ghost may_begin = { λ _ _ _ _. Unit {0} };
 
     ghost gives = { λ _ _ _ number answer. answer ≡ number * 2 };
@@ -31,8 +35,10 @@ impl Work for Doubles {
         _alloc: Global,
         _store: &I,
         _pass: &mut I::Pass,
+        kept: &mut u32,
         number: u32,
     ) -> Result<u64, StoreFault> {
+        *kept = kept.wrapping_mul(10).wrapping_add(number);
         Ok(u64::from(number) * 2)
     }
 
@@ -48,6 +54,10 @@ struct Interns {
 impl Work for Interns {
     type Answer = Place;
 
+    type Kept = u32;
+
+    ghost good = { λ _ _ _ _. Unit {0} };
+
     ghost may_begin = { λ _ _ _ _. Unit {0} };
 
     ghost gives = { λ s home lists number place. IfSome (slice_get s.codes.items number) (λ code. find home lists (arc_value code) ≡ Some place) };
@@ -62,6 +72,7 @@ impl Work for Interns {
         alloc: Global,
         store: &I,
         pass: &mut I::Pass,
+        _kept: &mut u32,
         number: u32,
     ) -> Result<Place, StoreFault> {
         let Some(code) = self.codes.get(number as usize) else {
@@ -106,20 +117,67 @@ fn stand<P: Codes>(pass: &P, work: &Interns, told: &[(u32, Place)]) -> bool {
     true
 }
 
+// What sixteen workers keep at first.
+fn sixteen(alloc: Global) -> Result<Vec<u32>, Fail>
+    ensures { IfOk result (λ kept. length kept.items ≡ 16) }
+{
+    Ok(vec![in alloc; 0u32; 16]?)
+}
+
 #[test]
 fn numbers_are_dealt_in_turn(rt: HostRuntime) -> Result<(), Fail> {
     let alloc = rt.alloc();
     let (store, mut pass) = SharedStore::new(alloc, 1, 10, OneShard)?;
-    let told = share(&rt, alloc, &store, &mut pass, &Doubles, &[5, 3, 9, 4], 1)?;
+    let mut kept = sixteen(alloc)?;
+    let told = share(
+        &rt,
+        alloc,
+        &store,
+        &mut pass,
+        &Doubles,
+        &mut kept,
+        &[5, 3, 9, 4],
+        1,
+    )?;
     assert!(rt; told.as_slice() == [(5, 10), (3, 6), (9, 18), (4, 8)].as_slice());
-    let told = share(&rt, alloc, &store, &mut pass, &Doubles, &[5, 3, 9, 4], 2)?;
+    let told = share(
+        &rt,
+        alloc,
+        &store,
+        &mut pass,
+        &Doubles,
+        &mut kept,
+        &[5, 3, 9, 4],
+        2,
+    )?;
     assert!(rt; told.as_slice() == [(5, 10), (9, 18), (3, 6), (4, 8)].as_slice());
-    let told = share(&rt, alloc, &store, &mut pass, &Doubles, &[5, 3, 9, 4], 3)?;
+    let told = share(
+        &rt,
+        alloc,
+        &store,
+        &mut pass,
+        &Doubles,
+        &mut kept,
+        &[5, 3, 9, 4],
+        3,
+    )?;
     assert!(rt; told.as_slice() == [(5, 10), (4, 8), (3, 6), (9, 18)].as_slice());
-    let told = share(&rt, alloc, &store, &mut pass, &Doubles, &[7, 5, 7], 16)?;
+    let told = share(
+        &rt,
+        alloc,
+        &store,
+        &mut pass,
+        &Doubles,
+        &mut kept,
+        &[7, 5, 7],
+        16,
+    )?;
     assert!(rt; told.as_slice() == [(7, 14), (5, 10), (7, 14)].as_slice());
-    let told = share(&rt, alloc, &store, &mut pass, &Doubles, &[], 16)?;
+    let told = share(&rt, alloc, &store, &mut pass, &Doubles, &mut kept, &[], 16)?;
     assert!(rt; told.is_empty());
+
+    // Each worker has kept the digits of its numbers, in their order.
+    assert!(rt; kept[0] == 539_459_547 && kept[1] == 3435 && kept[2] == 97 && kept[3] == 0);
     Ok(())
 }
 
@@ -133,7 +191,10 @@ fn workers_intern_the_same_codes(rt: HostRuntime) -> Result<(), Fail> {
 
             // Two workers meet the three codes in opposite orders.
             let numbers = [0, 2, 1, 1, 2, 0];
-            let told = share(&rt, alloc, &store, &mut pass, &work, &numbers, workers)?;
+            let mut kept = sixteen(alloc)?;
+            let told = share(
+                &rt, alloc, &store, &mut pass, &work, &mut kept, &numbers, workers,
+            )?;
             assert!(rt; told.len() == 6 && stand(&pass, &work, told.as_slice()));
             assert!(rt; pass.count(0) == 3 && pass.offers() >= 3 && pass.offers() <= 6);
         }
@@ -149,23 +210,56 @@ fn want_of_memory_goes_before_a_full_shard(rt: HostRuntime) -> Result<(), Fail> 
     let (made, mut first) = SharedStore::new(alloc, 1, 2, OneShard)?;
     let store = &made;
     let mut second = store.split(alloc, &mut first)?;
-    let told = share(&rt, alloc, store, &mut first, &work, &[0, 1], 2)?;
+    let mut kept = sixteen(alloc)?;
+    let told = share(&rt, alloc, store, &mut first, &work, &mut kept, &[0, 1], 2)?;
     assert!(rt; stand(&first, &work, told.as_slice()) && second.count(0) == 0);
 
     // The pass has all codes of the full shard, also those that a worker met whose number was refused.
-    let told = share(&rt, alloc, store, &mut second, &work, &[2, 1, 0], 3);
+    let mut kept = sixteen(alloc)?;
+    let told = share(
+        &rt,
+        alloc,
+        store,
+        &mut second,
+        &work,
+        &mut kept,
+        &[2, 1, 0],
+        3,
+    );
     assert!(rt; told.err() == full && second.count(0) == 2);
     for workers in [1u32, 2, 3, 16] {
-        let told = share(&rt, alloc, store, &mut first, &work, &[0, 2, 1], workers);
+        let mut kept = sixteen(alloc)?;
+        let told = share(
+            &rt,
+            alloc,
+            store,
+            &mut first,
+            &work,
+            &mut kept,
+            &[0, 2, 1],
+            workers,
+        );
         assert!(rt; told.err() == full);
-        let told = share(&rt, alloc, store, &mut first, &work, &[9, 2], workers);
+        let mut kept = sixteen(alloc)?;
+        let told = share(
+            &rt,
+            alloc,
+            store,
+            &mut first,
+            &work,
+            &mut kept,
+            &[9, 2],
+            workers,
+        );
         assert!(rt; told.err() == Some(StoreFault::NoMemory));
     }
 
     // Number 2 is refused before number 9 on one thread alone.
-    let told = share(&rt, alloc, store, &mut first, &work, &[2, 9], 1);
+    let mut kept = sixteen(alloc)?;
+    let told = share(&rt, alloc, store, &mut first, &work, &mut kept, &[2, 9], 1);
     assert!(rt; told.err() == full);
-    let told = share(&rt, alloc, store, &mut first, &work, &[2, 9], 2);
+    let mut kept = sixteen(alloc)?;
+    let told = share(&rt, alloc, store, &mut first, &work, &mut kept, &[2, 9], 2);
     assert!(rt; told.err() == Some(StoreFault::NoMemory));
     Ok(())
 }

@@ -13,6 +13,12 @@ pub trait Work {
     /// What the work on a number gives.
     type Answer: Drop;
 
+    /// What a worker keeps from one number to the next, as the last answers.
+    type Kept: Drop;
+
+    /// What a worker keeps is right for the lists.
+    ghost good: { Self → Home → Lists → Self.Kept → Type 0 };
+
     /// The work on a number may begin: what it builds on stands in the lists.
     ghost may_begin: { Self → Home → Lists → ℕ → Type 0 };
 
@@ -25,26 +31,31 @@ pub trait Work {
     /// How many codes the work on a number offers at most.
     ghost most: { Self → ℕ → ℕ };
 
-    /// Works on one number through a pass. Threads share `rt`, which a trait has to ask for besides its bound.
+    /// Works on one number through a pass, with what the worker keeps. Threads share `rt`, which a trait has to ask for
+    /// besides its bound.
     fn work<I: Interner, R: Threads + Sync>(
         &self,
         rt: &R,
         alloc: Global,
         store: &I,
         pass: &mut I::Pass,
+        kept: &mut Self::Kept,
         number: u32,
     ) -> Result<Self::Answer, StoreFault>
         requires sync { IsSync R.row }
         requires owned { I.owns store.now pass.old }
+        requires good { good self.now I.Pass.home (I.Pass.lists pass.old) kept.old }
         requires may_begin { may_begin self.now I.Pass.home (I.Pass.lists pass.old) number }
         ensures kept { I.owns store.now pass.new }
         ensures extends { Extends (I.Pass.lists pass.old) (I.Pass.lists pass.new) }
+        ensures good { good self.now I.Pass.home (I.Pass.lists pass.new) kept.new }
         ensures ok { IfOk result (gives self.now I.Pass.home (I.Pass.lists pass.new) number) }
         ensures err { IfErr result (RefusesOnly (I.limit_of store.now) (I.Pass.lists pass.new) (lacks self.now I.Pass.home (I.limit_of store.now) (I.Pass.lists pass.new) number)) }
         ensures offers { I.Pass.offered pass.new ≤ I.Pass.offered pass.old + most self.now number };
 
     /// What is so in some lists is so in all that extend them.
     fn lasts(&self)
+        ensures good { (home : Home) (old new : Lists) (kept : _) → Extends old new → good self.now home old kept → good self.now home new kept }
         ensures may_begin { (home : Home) (old new : Lists) (number : ℕ) → Extends old new → may_begin self.now home old number → may_begin self.now home new number }
         ensures gives { (home : Home) (old new : Lists) (number : ℕ) (answer : _) → Extends old new → gives self.now home old number answer → gives self.now home new number answer }
         ensures lacks { (home : Home) (limit : ℕ) (old new : Lists) (number : ℕ) → Extends old new → lacks self.now home limit old number → lacks self.now home limit new number };

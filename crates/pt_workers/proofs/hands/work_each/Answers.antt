@@ -12,5 +12,5 @@ returns-clause-each g c =
     let work = c.args.work.now in
     if-ok c.map_vec.result c.map_vec.ensures.each (λ v gives. λ i d e lt.
     let given = (gives i e lt).1 in
-    subst (λ (hand : Hand g.row.I-Pass.Denot). IsReportFor (g.I.Interner.owns c.args.store.now) g.I.Pass.Codes.lists g.I.Pass.Codes.offered limit (g.W.Work.gives work home) (g.W.Work.lacks work home limit) (g.W.Work.most work) hand (slice_index_or v.items i e))
+    subst (λ (hand : Hand g.row.I-Pass.Denot g.row.W-Kept.Denot). IsReportFor (g.I.Interner.owns c.args.store.now) g.I.Pass.Codes.lists g.I.Pass.Codes.offered (g.W.Work.good work home) limit (g.W.Work.gives work home) (g.W.Work.lacks work home limit) (g.W.Work.most work) hand (slice_index_or v.items i e))
     (sym (given.job_is d)) given.call.met)

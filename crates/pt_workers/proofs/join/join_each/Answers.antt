@@ -1,4 +1,4 @@
-use Rattle.std.proofs.Common.{◌≡◌, ◌+◌, ◌≤◌, ◌∙◌, ◌∷◌, [], ℕ, List, length, ap, sym, arith, subst, append_assoc, append-nil, IfOk, IfErr}
+use Rattle.std.proofs.Common.{◌≡◌, ◌+◌, ◌≤◌, ◌∙◌, ◌∷◌, [], ℕ, List, length, ap, sym, arith, subst, append_assoc, append-nil, length-append, ◌++◌, IfOk, IfErr}
 use Rattle.std.specs.Prelude.{sum_by}
 use Rattle.std.specs.Vec.Iter.{into_iter_items}
 use Rattle.pt_sets.proofs.ListLaws.{Extends-trans}
@@ -6,7 +6,7 @@ use Rattle.pt_workers.specs.Works.{AreTold, RefusesOnly, Some_of}
 use Rattle.pt_workers.specs.declared.hands.Report.{Report}
 use Rattle.pt_workers.specs.Reports.{IsReportOf, reported}
 use Rattle.pt_workers.proofs.Handing.{comes-next, nothing_left}
-use Rattle.pt_workers.proofs.Joining.{both-ok, both-err, reported-push, offers-more}
+use Rattle.pt_workers.proofs.Joining.{both-ok, both-err, both-count, reported-push, offers-more}
 use Rattle.pt_workers.proofs.join.join_each.Goals as goal
 
 pub join_one-more-requires-clause-report : goal.join_one-more-requires-clause-report
@@ -17,7 +17,7 @@ join_one-more-requires-clause-report g c κs within =
     let home = g.I.Pass.Codes.home in
     let limit = g.I.Interner.limit_of c.args.store.now in
     let work = c.args.work.now in
-    comes-next (λ (report : Report g.row.I-Pass.Denot g.row.W-Answer.Denot). IsReportOf (g.I.Interner.owns c.args.store.now) g.I.Pass.Codes.lists g.I.Pass.Codes.offered limit (g.W.Work.gives work home) (g.W.Work.lacks work home limit) (g.W.Work.most work) report.numbers report)
+    comes-next (λ (report : Report g.row.I-Pass.Denot g.row.W-Kept.Denot g.row.W-Answer.Denot). IsReportOf (g.I.Interner.owns c.args.store.now) g.I.Pass.Codes.lists g.I.Pass.Codes.offered (g.W.Work.good work home) limit (g.W.Work.gives work home) (g.W.Work.lacks work home limit) (g.W.Work.most work) report.numbers report)
     c.loop-report.yielded x (into_iter_items c.next.new.self) c.args.reports.items (rw (← steps) inv.rest) c.requires.reports
 
 pub loop-report-preserved : goal.loop-report-preserved
@@ -40,6 +40,9 @@ loop-report-preserved g c =
       extends = Extends-trans _ _ _ inv.extends after.extends;
       rest = append_assoc c.loop-report.yielded (x ∷ []) _ ∙ rw (← steps) inv.rest;
       left = (let was = inv.left in omega arith);
+      good = after.good;
+      longer = omega (arith, inv.longer, after.longer);
+      count = (let size = length-append c.loop-report.yielded (x ∷ []) in both-count (length c.args.kept.now.items) (length c.loop-report.yielded) (length (c.loop-report.yielded ++ x ∷ [])) (length c.loop-report.kept.items) (length c.join_one-more.new.kept.items) c.loop-report.told c.join_one-more.result c.both-told.result size inv.count after.count c.both-told.ensures.memory);
       ok = subst (λ (ns : List ℕ). IfOk c.both-told.result (λ told. AreTold (g.W.Work.gives work home new) ns told.items)) (sym numbers)
           (both-ok (g.W.Work.gives work home old) (g.W.Work.gives work home new) (reported c.loop-report.yielded) x.numbers.items c.loop-report.told c.join_one-more.result c.both-told.result
           (λ n a. lasts.gives home old new n a after.extends) inv.ok after.ok c.both-told.ensures.ok);

@@ -54,6 +54,7 @@ loop-number-preserved g c =
     record {
       kept = after.kept;
       extends = Extends-trans (g.I.Pass.Codes.lists c.args.pass.now) old new before.extends after.extends;
+      good = after.good;
       each = rw c.in-Ok-push.ensures.items (told-push (gives old) (gives new) c.loop-number.told.items number c.in-Ok.answer (λ n a. c.lasts.ensures.gives home old new n a after.extends) before.each c.in-Ok.ensures.ok);
       numbers = rw c.in-Ok-push.ensures.items (numbers-push c.loop-number.told.items number c.in-Ok.answer (take k numbers) before.numbers ∙ sym (take-next numbers k c.loop-number-test.true));
       offers = offers-next most numbers k (g.I.Pass.Codes.offered c.args.pass.now) (g.I.Pass.Codes.offered c.loop-number.pass) (g.I.Pass.Codes.offered c.work.new.pass) c.loop-number-test.true before.offers after.offers;
@@ -64,3 +65,7 @@ returns-clause-ok g c =
     let numbers = c.args.numbers.now in
     let all : take c.loop-number.number-index c.args.numbers.now ≡ c.args.numbers.now = take_all c.loop-number.number-index numbers c.loop-number-test.false in
     told-in_order (g.W.Work.gives c.args.work.now g.I.Pass.Codes.home (g.I.Pass.Codes.lists c.loop-number.pass)) numbers c.loop-number.told.items c.loop-number.invariant.each (c.loop-number.invariant.numbers ∙ all)
+
+pub returns-in-Err-clause-extends : goal.returns-in-Err-clause-extends
+returns-in-Err-clause-extends g c =
+    Extends-trans (g.I.Pass.Codes.lists c.args.pass.now) (g.I.Pass.Codes.lists c.loop-number.pass) (g.I.Pass.Codes.lists c.work.new.pass) c.loop-number.invariant.extends c.work.ensures.extends

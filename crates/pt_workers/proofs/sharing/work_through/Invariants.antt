@@ -7,6 +7,7 @@ abbrev pub invariant-loop-number : goal.invariant-loop-number
 invariant-loop-number g l = record {
   kept : g.I.Interner.owns l.store l.pass;
   extends : Extends (g.I.Pass.Codes.lists l.initial.pass) (g.I.Pass.Codes.lists l.pass);
+  good : g.W.Work.good l.work g.I.Pass.Codes.home (g.I.Pass.Codes.lists l.pass) l.kept;
   each : All (λ t. g.W.Work.gives l.work g.I.Pass.Codes.home (g.I.Pass.Codes.lists l.pass) t.0 t.1) l.told.items;
   numbers : map (λ t. t.0) l.told.items ≡ take l.number-index l.numbers;
   offers : g.I.Pass.Codes.offered l.pass ≤ g.I.Pass.Codes.offered l.initial.pass + sum_by (g.W.Work.most l.work) (take l.number-index l.numbers);
