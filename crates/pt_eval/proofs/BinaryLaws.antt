@@ -1,25 +1,29 @@
--- Automata of nodes of two children: the combined set over the tracks of the variables.
+-- Nodes of two children: the combined set over the tracks of the variables.
 use Rattle.std.proofs.Common.{◌≡◌, ◌↔◌, inl, inr, ℕ, ◌<◌, ◌≤◌, List, length, map, refl, ap, sym, subst, ◌∙◌, Result, Ok, Err}
-use Rattle.std.specs.Prelude.{ℤ, IfOk, IfErr}
+use Rattle.std.specs.Prelude.{ℤ, IfOk, IfErr, OnOk}
 use Rattle.std.proofs.lemmas.List.{length-map}
 use Rattle.pt_sets.specs.Words.{Vector}
 use Rattle.pt_sets.specs.Sets.{SameSet, residual_by}
-use Rattle.pt_sets.specs.Automata.{Automaton, SetOfState}
-use Rattle.pt_sets.specs.Costs.{CostWithin, SameResidual, SamePair}
+use Rattle.pt_sets.specs.Costs.{CostAbove, CostWithin, SameResidual, SamePair}
 use Rattle.pt_sets.specs.Restricting.{IsTrackMap, selected, widened}
-use Rattle.pt_sets.proofs.Counting.{SameSet-sym, SameSet-trans}
-use Rattle.pt_handles.specs.declared.fault.TableFault.{TableFault}
-use Rattle.pt_handles.specs.Refusing.{StatesOnlyAbove}
+use Rattle.pt_sets.proofs.Counting.{SameSet-sym, SameSet-trans, above-moved}
+use Rattle.pt_sets.specs.Lists.{Lists, Home}
+use Rattle.pt_handles.specs.declared.handle.Handle.{Handle}
+use Rattle.pt_handles.specs.declared.fault.OpFault.{OpFault}
+use Rattle.pt_handles.specs.declared.fault.OpFault.TheVariants as op_fault
+use Rattle.pt_handles.specs.Handles.{Has}
+use Rattle.pt_handles.specs.Refusing.{RefusedOnlyWhere}
 use Rattle.pt_formula.specs.declared.Op.{Op}
 use Rattle.pt_formula.specs.declared.Op.TheVariants as op
 use Rattle.pt_formula.specs.Forms.{IsIncreasing}
 use Rattle.pt_formula.specs.Truth.{Tree, And, Or, Iff, Xor, Holds, Solutions, Widened, union, free_variables, valuation}
 use Rattle.pt_formula.specs.Formulas.{node_tree, op_node}
-use Rattle.pt_formula.specs.Costs.{SameValue, track_of}
+use Rattle.pt_formula.specs.Costs.{SameValue, TreeCostAbove, TreeCostWithin, track_of}
 use Rattle.pt_product.specs.Operations.{Connects, combined}
-use Rattle.pt_eval.specs.Parts.{IsTableOf, RefusesTree, tracks_of}
+use Rattle.pt_eval.specs.Parts.{IsHandleOf, RefusesHandle, tracks_of}
 use Rattle.pt_eval.proofs.TrackLaws.{selected-values, all-union, tracks-inside, is-track_map}
-use Rattle.pt_eval.proofs.CostLaws.{within-moved, states-moved, residual-moved}
+use Rattle.pt_eval.proofs.CostLaws.{within-moved, residual-moved}
+use Rattle.pt_eval.proofs.HandleLaws.{has-same, lacks-same}
 
 abbrev pub op_tree : Op → Tree → Tree → Tree
 op_tree op.And a b = And a b
@@ -143,63 +147,60 @@ module _ (law : WideningLaw) (o : Op) (a b : Tree) (X Y : Vector → Type 0) (fi
   abbrev wide_y : Vector → Type 0
   wide_y = widened (tracks_of (free_variables b) (both_variables a b)) Y
 
-  -- the automaton of the combined set is that of the node
-  pub binary-table : (table : Automaton) → table.tracks ≡ length (both_variables a b) → table.states ≤ B →
-      SameSet (length (both_variables a b)) (SetOfState table 0) (combined o (widened (tracks_of (free_variables a) (both_variables a b)) X) (widened (tracks_of (free_variables b) (both_variables a b)) Y)) →
-      CostWithin (SamePair (length (both_variables a b)) (widened (tracks_of (free_variables a) (both_variables a b)) X) (widened (tracks_of (free_variables b) (both_variables a b)) Y)) (length (both_variables a b)) B →
-      IsTableOf (op_tree o a b) B table
-  binary-table table tracks few set within =
-      let size : length (both_variables a b) ≡ length (free_variables (op_tree o a b)) = sym (ap length (op-variables o a b)) in
-      let sets : SameSet (length (both_variables a b)) (SetOfState table 0) (Solutions (op_tree o a b)) =
-      SameSet-trans (length (both_variables a b)) (SetOfState table 0) (combined o wide_x wide_y) (Solutions (op_tree o a b)) set
-      (SameSet-trans (length (both_variables a b)) (combined o wide_x wide_y) (combined o (part_of a b a) (part_of a b b)) (Solutions (op_tree o a b)) (combined-moved o (length (both_variables a b)) wide_x wide_y (part_of a b a) (part_of a b b) wide_first wide_second) (binary-set law o a b)) in
-      let parts : CostWithin (same_parts a b) (length (both_variables a b)) B =
-      within-moved (SamePair (length (both_variables a b)) wide_x wide_y) (same_parts a b) (length (both_variables a b))
-      (λ v w hv hw h. pair-moved (length (both_variables a b)) wide_x wide_y (part_of a b a) (part_of a b b) wide_first wide_second v w h) B within in
-      let values : CostWithin (SameValue (op_tree o a b)) (length (both_variables a b)) B = within-moved (same_parts a b) (SameValue (op_tree o a b)) (length (both_variables a b)) (λ v w hv hw h. parts-value o a b v w h) B parts in
-      let residuals : CostWithin (SameResidual (length (both_variables a b)) (Solutions (op_tree o a b))) (length (both_variables a b)) B =
-      within-moved (same_parts a b) (SameResidual (length (both_variables a b)) (Solutions (op_tree o a b))) (length (both_variables a b))
-      (λ v w hv hw h. residual-moved (length (both_variables a b)) (combined o (part_of a b a) (part_of a b b)) (Solutions (op_tree o a b)) (binary-set law o a b) v w (pair-combined o (length (both_variables a b)) (part_of a b a) (part_of a b b) v w h)) B parts in
-      record {
-        tracks = tracks ∙ size;
-        few = few;
-        set = subst (λ (j : ℕ). SameSet j (SetOfState table 0) (Solutions (op_tree o a b))) size sets;
-        within = subst (λ (j : ℕ). CostWithin (SameValue (op_tree o a b)) j B) size values;
-        residuals = subst (λ (j : ℕ). CostWithin (SameResidual j (Solutions (op_tree o a b))) j B) size residuals;
-      }
+  abbrev Wide : List ℕ → List ℕ → Vector → Type 0
+  Wide ma mb = combined o (widened ma X) (widened mb Y)
 
-  pub binary-refused : (fault : TableFault) →
-      StatesOnlyAbove (SamePair (length (both_variables a b)) (widened (tracks_of (free_variables a) (both_variables a b)) X) (widened (tracks_of (free_variables b) (both_variables a b)) Y)) (length (both_variables a b)) B fault →
-      RefusesTree (op_tree o a b) B fault
-  binary-refused fault refused =
-      let size : length (both_variables a b) ≡ length (free_variables (op_tree o a b)) = sym (ap length (op-variables o a b)) in
+  whole : SameSet (length (both_variables a b)) (combined o wide_x wide_y) (Solutions (op_tree o a b))
+  whole = SameSet-trans (length (both_variables a b)) (combined o wide_x wide_y) (combined o (part_of a b a) (part_of a b b)) (Solutions (op_tree o a b))
+      (combined-moved o (length (both_variables a b)) wide_x wide_y (part_of a b a) (part_of a b b) wide_first wide_second) (binary-set law o a b)
+
+  size : length (both_variables a b) ≡ length (free_variables (op_tree o a b))
+  size = sym (ap length (op-variables o a b))
+
+  whole_there : SameSet (length (free_variables (op_tree o a b))) (combined o wide_x wide_y) (Solutions (op_tree o a b))
+  whole_there = subst (λ (j : ℕ). SameSet j (combined o wide_x wide_y) (Solutions (op_tree o a b))) size whole
+
+  parts : CostWithin (SamePair (length (both_variables a b)) wide_x wide_y) (length (both_variables a b)) B → CostWithin (same_parts a b) (length (both_variables a b)) B
+  parts within = within-moved (SamePair (length (both_variables a b)) wide_x wide_y) (same_parts a b) (length (both_variables a b))
+      (λ v w hv hw h. pair-moved (length (both_variables a b)) wide_x wide_y (part_of a b a) (part_of a b b) wide_first wide_second v w h) B within
+
+  tree_within : CostWithin (SamePair (length (both_variables a b)) wide_x wide_y) (length (both_variables a b)) B → TreeCostWithin (op_tree o a b) B
+  tree_within within =
+      subst (λ (j : ℕ). CostWithin (SameValue (op_tree o a b)) j B) size
+      (within-moved (same_parts a b) (SameValue (op_tree o a b)) (length (both_variables a b)) (λ v w hv hw h. parts-value o a b v w h) B (parts within))
+
+  tree_residuals : CostWithin (SamePair (length (both_variables a b)) wide_x wide_y) (length (both_variables a b)) B → CostWithin (SameResidual (length (free_variables (op_tree o a b))) (Solutions (op_tree o a b))) (length (free_variables (op_tree o a b))) B
+  tree_residuals within =
+      subst (λ (j : ℕ). CostWithin (SameResidual j (Solutions (op_tree o a b))) j B) size
+      (within-moved (same_parts a b) (SameResidual (length (both_variables a b)) (Solutions (op_tree o a b))) (length (both_variables a b))
+      (λ v w hv hw h. residual-moved (length (both_variables a b)) (combined o (part_of a b a) (part_of a b b)) (Solutions (op_tree o a b)) (binary-set law o a b) v w (pair-combined o (length (both_variables a b)) (part_of a b a) (part_of a b b) v w h)) B (parts within))
+
+  tree_above : CostAbove (SamePair (length (both_variables a b)) wide_x wide_y) (length (both_variables a b)) B → TreeCostAbove (op_tree o a b) B
+  tree_above above =
       let back_first = SameSet-sym (length (both_variables a b)) wide_x (part_of a b a) wide_first in
       let back_second = SameSet-sym (length (both_variables a b)) wide_y (part_of a b b) wide_second in
-      let moved : StatesOnlyAbove (SameValue (op_tree o a b)) (length (both_variables a b)) B fault =
-      states-moved (SamePair (length (both_variables a b)) wide_x wide_y) (SameValue (op_tree o a b)) (length (both_variables a b))
-      (λ v w hv hw h. pair-moved (length (both_variables a b)) (part_of a b a) (part_of a b b) wide_x wide_y back_first back_second v w (value-parts o a b v w h)) B fault refused in
-      subst (λ (j : ℕ). StatesOnlyAbove (SameValue (op_tree o a b)) j B fault) size moved
+      subst (λ (j : ℕ). CostAbove (SameValue (op_tree o a b)) j B) size
+      (above-moved (SamePair (length (both_variables a b)) wide_x wide_y) (SameValue (op_tree o a b)) (length (both_variables a b))
+      (λ v w hv hw h. pair-moved (length (both_variables a b)) (part_of a b a) (part_of a b b) wide_x wide_y back_first back_second v w (value-parts o a b v w h)) B above)
 
--- the answers of a call that combines two sets over so many tracks by maps
-module _ (law : WideningLaw) (o : Op) (a b : Tree) (X Y : Vector → Type 0) (first : SameSet (length (free_variables a)) X (Solutions a)) (second : SameSet (length (free_variables b)) Y (Solutions b)) (B n : ℕ) (ma mb : List ℕ)
-    (count : n ≡ length (both_variables a b)) (map_a : ma ≡ tracks_of (free_variables a) (both_variables a b)) (map_b : mb ≡ tracks_of (free_variables b) (both_variables a b)) where
-  pub binary-ok : (r : Result Automaton TableFault) → IfOk r (λ table. table.tracks ≡ n) → IfOk r (λ table. table.states ≤ B) →
-      IfOk r (λ table. SameSet n (SetOfState table 0) (combined o (widened ma X) (widened mb Y))) → IfOk r (λ table. CostWithin (SamePair n (widened ma X) (widened mb Y)) n B) →
-      IfOk r (λ table. IsTableOf (op_tree o a b) B table)
-  binary-ok (Ok table) tracks few set within =
-      binary-table law o a b X Y first second B table (tracks ∙ count) few
-      (subst (λ (m : List ℕ). SameSet (length (both_variables a b)) (SetOfState table 0) (combined o (widened (tracks_of (free_variables a) (both_variables a b)) X) (widened m Y))) map_b
-      (subst (λ (m : List ℕ). SameSet (length (both_variables a b)) (SetOfState table 0) (combined o (widened m X) (widened mb Y))) map_a
-      (subst (λ (j : ℕ). SameSet j (SetOfState table 0) (combined o (widened ma X) (widened mb Y))) count set)))
-      (subst (λ (m : List ℕ). CostWithin (SamePair (length (both_variables a b)) (widened (tracks_of (free_variables a) (both_variables a b)) X) (widened m Y)) (length (both_variables a b)) B) map_b
-      (subst (λ (m : List ℕ). CostWithin (SamePair (length (both_variables a b)) (widened m X) (widened mb Y)) (length (both_variables a b)) B) map_a
-      (subst (λ (j : ℕ). CostWithin (SamePair j (widened ma X) (widened mb Y)) j B) count within)))
-  binary-ok (Err fault) tracks few set within = tt
+  module _ (home : Home) (limit : ℕ) (lists : Lists) where
+    -- what a call that combines the sets over n tracks by maps gives is the node's
+    abbrev Answers : ℕ → List ℕ → List ℕ → Type 0
+    Answers n ma mb = (r : Result Handle OpFault) → IfOk r (Has home lists n (Wide ma mb)) → OnOk r (CostWithin (SamePair n (widened ma X) (widened mb Y)) n B) →
+        IfErr r (RefusedOnlyWhere (SamePair n (widened ma X) (widened mb Y)) n B home limit lists n (Wide ma mb)) →
+        ((shard count : ℕ) → r ≡ Err (op_fault.Full shard count) → CostWithin (SamePair n (widened ma X) (widened mb Y)) n B) →
+        IfOk r (IsHandleOf home lists (op_tree o a b) B) × IfErr r (RefusesHandle home limit lists (op_tree o a b) B)
 
-  pub binary-err : (r : Result Automaton TableFault) → IfErr r (StatesOnlyAbove (SamePair n (widened ma X) (widened mb Y)) n B) → IfErr r (RefusesTree (op_tree o a b) B)
-  binary-err (Ok table) refused = tt
-  binary-err (Err fault) refused =
-      binary-refused law o a b X Y first second B fault
-      (subst (λ (m : List ℕ). StatesOnlyAbove (SamePair (length (both_variables a b)) (widened (tracks_of (free_variables a) (both_variables a b)) X) (widened m Y)) (length (both_variables a b)) B fault) map_b
-      (subst (λ (m : List ℕ). StatesOnlyAbove (SamePair (length (both_variables a b)) (widened m X) (widened mb Y)) (length (both_variables a b)) B fault) map_a
-      (subst (λ (j : ℕ). StatesOnlyAbove (SamePair j (widened ma X) (widened mb Y)) j B fault) count refused)))
+    answers : Answers (length (both_variables a b)) (tracks_of (free_variables a) (both_variables a b)) (tracks_of (free_variables b) (both_variables a b))
+    answers (Ok h) has within refused full =
+        (record { solutions = has-same home lists (length (both_variables a b)) (length (free_variables (op_tree o a b))) (combined o wide_x wide_y) (Solutions (op_tree o a b)) h size whole_there has; within = tree_within within; residuals = tree_residuals within }, tt)
+    answers (Err (op_fault.States b)) has within refused full = (tt, (refused.0, tree_above refused.1))
+    answers (Err (op_fault.Full shard count)) has within (is, at, lacks) full =
+        (tt, ((is, at), lacks-same home limit lists (length (both_variables a b)) (length (free_variables (op_tree o a b))) (combined o wide_x wide_y) (Solutions (op_tree o a b)) size whole_there lacks, tree_within (full shard count refl)))
+    answers (Err op_fault.NoMemory) has within refused full = (tt, tt)
+
+    pub binary-answers : (n : ℕ) (ma mb : List ℕ) → n ≡ length (both_variables a b) → ma ≡ tracks_of (free_variables a) (both_variables a b) → mb ≡ tracks_of (free_variables b) (both_variables a b) → Answers n ma mb
+    binary-answers n ma mb count map_a map_b =
+        subst (λ (k : ℕ). Answers k ma mb) (sym count)
+        (subst (λ (m : List ℕ). Answers (length (both_variables a b)) m mb) (sym map_a)
+        (subst (λ (m : List ℕ). Answers (length (both_variables a b)) (tracks_of (free_variables a) (both_variables a b)) m) (sym map_b) answers))

@@ -1,6 +1,7 @@
 pub mod TrackLaws
 pub mod DigitLaws
 pub mod CostLaws
+pub mod HandleLaws
 pub mod LeafLaws
 pub mod BinaryLaws
 pub mod QuantifierLaws

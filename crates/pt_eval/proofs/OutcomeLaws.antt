@@ -1,19 +1,20 @@
 -- Outcomes of nodes from those of their children.
-use Rattle.std.proofs.Common.{◌≡◌, ◌+◌, ◌≤◌, inl, inr, ℕ, List, [], ◌∷◌, length, refl, ap, sym, subst, ◌∙◌}
+use Rattle.std.proofs.Common.{◌≡◌, ◌+◌, ◌≤◌, inl, inr, ℕ, List, [], ◌∷◌, length, refl, ap, sym, subst, ◌∙◌, arith, Result, Ok, Err, IfOk, IfErr}
 use Rattle.pt_sets.specs.Elements.{ContainsByRecursion}
 use Rattle.pt_sets.specs.Words.{Vector}
 use Rattle.pt_sets.specs.Sets.{SameSet}
-use Rattle.pt_sets.specs.Languages.{SetOf}
 use Rattle.pt_sets.specs.Lists.{Lists, Home}
-use Rattle.pt_sets.specs.Known.{Lacks, language_in}
+use Rattle.pt_sets.specs.Known.{Lacks}
 use Rattle.pt_sets.specs.Costs.{CostWithin, SameResidual}
-use Rattle.pt_sets.proofs.Counting.{SameSet-sym, SameSet-trans}
+use Rattle.pt_sets.proofs.Counting.{SameSet-sym}
 use Rattle.pt_store.specs.declared.fault.StoreFault.{StoreFault}
 use Rattle.pt_store.specs.declared.fault.StoreFault.TheVariants as store
 use Rattle.pt_handles.specs.declared.handle.Handle.{Handle}
 use Rattle.pt_handles.specs.Handles.{Has, SetOfHandle, FullOnlyWhereLacking}
 use Rattle.pt_formula.specs.declared.node.Node.{Node}
 use Rattle.pt_formula.specs.declared.node.Position.{Position}
+use Rattle.pt_handles.specs.declared.fault.OpFault.{OpFault}
+use Rattle.pt_handles.specs.declared.fault.OpFault.TheVariants as op_fault
 use Rattle.pt_formula.specs.declared.Op.{Op}
 use Rattle.pt_formula.specs.declared.Op.TheVariants as op
 use Rattle.pt_formula.specs.Truth.{Tree, Not, Exists, Solutions, free_variables}
@@ -23,25 +24,12 @@ use Rattle.pt_product.specs.Derived.{outside}
 use Rattle.pt_eval.specs.declared.outcome.Outcome.{Outcome}
 use Rattle.pt_eval.specs.declared.outcome.Outcome.TheVariants.{Pending, Known, Costly, LeftOut}
 use Rattle.pt_eval.specs.Evaluating.{IsCheap, HasFewResiduals}
-use Rattle.pt_eval.specs.Outcomes.{IsEvaluated, IsCheapBelow, HasCostlyBelow, IsOutcome, IsRefusal, RefusesWhere, known}
+use Rattle.pt_eval.specs.Outcomes.{IsEvaluated, IsCheapBelow, HasCostlyBelow, IsOutcome, IsRefusal, IsResult, RefusesWhere, known, settled}
+use Rattle.pt_eval.specs.Parts.{IsHandleOf, RefusesHandle}
 use Rattle.pt_eval.proofs.CostLaws.{residuals-moved}
+use Rattle.pt_eval.proofs.HandleLaws.{has-same, lacks-same}
 use Rattle.pt_eval.proofs.QuantifierLaws.{TruthLaw, same-variables, unused-set, unused-within}
 use Rattle.pt_eval.proofs.NegationLaws.{negation-set, negation-residuals}
-
--- ---- known handles and lacking go over to equal sets
-
-pub has-same : (home : Home) (lists : Lists) (n t : ℕ) (X Y : Vector → Type 0) (h : Handle) → n ≡ t → SameSet t X Y → Has home lists n X h → Has home lists t Y h
-has-same home lists n t X Y h is same has =
-    let set : SameSet t (SetOfHandle lists h) X = subst (λ (j : ℕ). SameSet j (SetOfHandle lists h) X) is has.set in
-    record { tracks = has.tracks ∙ is; known = has.known; set = SameSet-trans t (SetOfHandle lists h) X Y set same }
-
-lacks-same : (home : Home) (limit : ℕ) (lists : Lists) (n t : ℕ) (X Y : Vector → Type 0) → n ≡ t → SameSet t X Y → Lacks home limit lists n X → Lacks home limit lists t Y
-lacks-same home limit lists n t X Y is same lacks =
-    let there : Lacks home limit lists t X = subst (λ (j : ℕ). Lacks home limit lists j X) is lacks in
-    record {
-      none = λ longer extends within q known equal.
-          there.none longer extends within q known (SameSet-trans t (SetOf t (language_in longer q)) Y X equal (SameSet-sym t X Y same));
-    }
 
 -- ---- descendants
 
@@ -94,6 +82,15 @@ op-children op.And a b = refl
 op-children op.Or a b = refl
 op-children op.Iff a b = refl
 op-children op.Xor a b = refl
+
+-- ---- solutions that were asked for
+
+pub settled-right : (home : Home) (limit : ℕ) (lists : Lists) (f : List (Node × Position)) (bound i : ℕ) (r : Result Handle OpFault) → IsCheapBelow f bound i → IfOk r (IsHandleOf home lists (tree_of f i) bound) → IfErr r (RefusesHandle home limit lists (tree_of f i) bound) →
+    IfOk (settled r) (IsResult home lists f bound i) × IfErr (settled r) (RefusesWhere (λ j. i ≡ j) f bound home limit lists)
+settled-right home limit lists f bound i (Ok h) below is refused = ((record { solutions = is.solutions; cheap = cheap-node f bound i below is.within; residuals = is.residuals }, tt), tt)
+settled-right home limit lists f bound i (Err (op_fault.States b)) below is refused = ((record { above = refused.1; below = below }, tt), tt)
+settled-right home limit lists f bound i (Err (op_fault.Full shard count)) below is (full, lacks, within) = (tt, (full, (i, refl, cheap-node f bound i below within, lacks)))
+settled-right home limit lists f bound i (Err op_fault.NoMemory) below is refused = (tt, tt)
 
 -- ---- a store's refusal
 

@@ -1,25 +1,29 @@
--- Automata of quantifiers: the projection along the track of the variable.
+-- Quantifiers: the projection along the track of the variable.
 use Rattle.std.proofs.Common.{◌≡◌, ◌⊎◌, ◌↔◌, inl, inr, ℕ, suc, ◌+◌, ◌*◌, ◌/◌, ◌%◌, ◌^◌, ◌<◌, ◌≤◌, true, false, ◌==◌, if◌then◌else◌, List, [], ◌∷◌, length, map, refl, ap, sym, subst, ◌∙◌, arith, Result, Ok, Err, ◌-◌}
 use Rattle.std.proofs.lemmas.Bool.Decides.{nat_tests}
-use Rattle.std.specs.Prelude.{ℤ, pos, insert, IfOk, IfErr}
+use Rattle.std.specs.Prelude.{ℤ, pos, insert, IfOk, IfErr, OnOk}
 use Rattle.std.specs.List.{AllByRecursion}
 use Rattle.std.proofs.lemmas.List.Edits.{length-insert}
 use Rattle.std.proofs.Math.Nat.{mod-eq_of_lt, div-eq_of_lt}
 use Rattle.pt_sets.specs.Words.{Vector, AreLetters, after_digits}
 use Rattle.pt_sets.specs.Sets.{SameSet}
-use Rattle.pt_sets.specs.Automata.{Automaton, SetOfState}
 use Rattle.pt_sets.specs.Costs.{CostWithin, SameResidual, SameFamily, IncludesFamily, RestrictsBy}
-use Rattle.pt_sets.proofs.Counting.{SameSet-sym, SameSet-trans}
-use Rattle.pt_handles.specs.declared.fault.TableFault.{TableFault}
-use Rattle.pt_handles.specs.Refusing.{StatesOnlyAbove}
+use Rattle.pt_sets.proofs.Counting.{SameSet-sym, SameSet-trans, above-moved}
+use Rattle.pt_sets.specs.Lists.{Lists, Home}
+use Rattle.pt_handles.specs.declared.handle.Handle.{Handle}
+use Rattle.pt_handles.specs.declared.fault.OpFault.{OpFault}
+use Rattle.pt_handles.specs.declared.fault.OpFault.TheVariants as op_fault
+use Rattle.pt_handles.specs.Handles.{Has}
+use Rattle.pt_handles.specs.Refusing.{RefusedOnlyWhere}
 use Rattle.pt_formula.specs.Forms.{IsIncreasing}
 use Rattle.pt_formula.specs.Truth.{Tree, Exists, Holds, Solutions, updated, without as vars_without, free_variables, valuation}
 use Rattle.pt_formula.specs.Costs.{SameValue, TreeCostWithin, track_of, without_track}
 use Rattle.pt_project.specs.Projecting.{projected, without}
-use Rattle.pt_eval.specs.Parts.{IsTableOf, RefusesTree}
+use Rattle.pt_eval.specs.Parts.{IsHandleOf, RefusesHandle}
 use Rattle.pt_eval.proofs.TrackLaws.{track-here, track-later, without-first, without-later, without-none, no-track, length-without}
 use Rattle.pt_eval.proofs.DigitLaws.{double-step, out, without-out, split-digits, join-digits}
-use Rattle.pt_eval.proofs.CostLaws.{within-moved, states-moved, residual-moved}
+use Rattle.pt_eval.proofs.CostLaws.{within-moved, residual-moved}
+use Rattle.pt_eval.proofs.HandleLaws.{has-same, lacks-same}
 
 -- truth depends on the values of the free variables alone
 abbrev pub TruthLaw : Type 0
@@ -139,7 +143,7 @@ module _ (n k : ℕ) (short : k ≤ n) (X : Vector → Type 0) where
   pub family-residual : (v w : List ℕ) → AreLetters n v → AreLetters n w → SameFamily (RestrictsBy (suc n) (without k)) (suc n) X v w → SameResidual n (projected k X) v w
   family-residual v w letters_v letters_w same = record { agrees = λ z count. (λ h. projects v w letters_v same.0 z count h, λ h. projects w v letters_w same.1 z count h) }
 
--- ---- the automaton of a quantifier
+-- ---- handles of a quantifier
 
 module _ (law : TruthLaw) (v : ℕ) (a : Tree) (up : IsIncreasing (free_variables a)) (inside : track_of v (free_variables a) < length (free_variables a)) (X : Vector → Type 0) (body : SameSet (length (free_variables a)) X (Solutions a)) (B : ℕ) where
   abbrev place : ℕ
@@ -171,52 +175,38 @@ module _ (law : TruthLaw) (v : ℕ) (a : Tree) (up : IsIncreasing (free_variable
       family-moved (length (free_variables a)) (RestrictsBy (length (free_variables a)) (without_track place)) (RestrictsBy (length (free_variables a)) (without place)) (restricts-back (length (free_variables a)) place) (restricts-track (length (free_variables a)) place) (Solutions a) X (SameSet-sym (length (free_variables a)) X (Solutions a) body) u w h in
       subst (λ (j : ℕ). SameFamily (RestrictsBy j (without place)) j X u w) (sym size) there
 
-  pub exists-table : (table : Automaton) → table.tracks ≡ length (vars_without v (free_variables a)) → table.states ≤ B →
-      SameSet (length (vars_without v (free_variables a))) (SetOfState table 0) (projected (track_of v (free_variables a)) X) →
-      CostWithin (SameFamily (RestrictsBy (suc (length (vars_without v (free_variables a)))) (without (track_of v (free_variables a)))) (suc (length (vars_without v (free_variables a)))) X) (length (vars_without v (free_variables a))) B →
-      IsTableOf (Exists v a) B table
-  exists-table table tracks few set within = record {
-    tracks = tracks;
-    few = few;
-    set = SameSet-trans rest (SetOfState table 0) (projected place X) (Solutions (Exists v a)) set whole;
-    within = within-moved (SameFamily (RestrictsBy (suc rest) (without place)) (suc rest) X) (SameValue (Exists v a)) rest (λ u w hu hw h. family-value u w h) B within;
-    residuals =
-        within-moved (SameFamily (RestrictsBy (suc rest) (without place)) (suc rest) X) (SameResidual rest (Solutions (Exists v a))) rest
-        (λ u w hu hw h. residual-moved rest (projected place X) (Solutions (Exists v a)) whole u w (family-residual rest place short X u w hu hw h)) B within;
-  }
+  module _ (home : Home) (limit : ℕ) (lists : Lists) where
+    -- what a call that projects the set of t tracks along track j to n tracks gives is the quantifier's
+    abbrev Answers : ℕ → ℕ → ℕ → Type 0
+    Answers n t j = (r : Result Handle OpFault) → IfOk r (Has home lists n (projected j X)) → OnOk r (CostWithin (SameFamily (RestrictsBy t (without j)) t X) n B) →
+        IfErr r (RefusedOnlyWhere (SameFamily (RestrictsBy t (without j)) t X) n B home limit lists n (projected j X)) →
+        ((shard count : ℕ) → r ≡ Err (op_fault.Full shard count) → CostWithin (SameFamily (RestrictsBy t (without j)) t X) n B) →
+        IfOk r (IsHandleOf home lists (Exists v a) B) × IfErr r (RefusesHandle home limit lists (Exists v a) B)
 
-  pub exists-refused : (fault : TableFault) →
-      StatesOnlyAbove (SameFamily (RestrictsBy (suc (length (vars_without v (free_variables a)))) (without (track_of v (free_variables a)))) (suc (length (vars_without v (free_variables a)))) X) (length (vars_without v (free_variables a))) B fault →
-      RefusesTree (Exists v a) B fault
-  exists-refused fault refused = states-moved (SameFamily (RestrictsBy (suc rest) (without place)) (suc rest) X) (SameValue (Exists v a)) rest (λ u w hu hw h. value-family u w h) B fault refused
+    tree_within : CostWithin (SameFamily (RestrictsBy (suc rest) (without place)) (suc rest) X) rest B → TreeCostWithin (Exists v a) B
+    tree_within within = within-moved (SameFamily (RestrictsBy (suc rest) (without place)) (suc rest) X) (SameValue (Exists v a)) rest (λ u w hu hw h. family-value u w h) B within
 
--- the answers of a call that projects a set of t tracks along track j
-module _ (law : TruthLaw) (v : ℕ) (a : Tree) (up : IsIncreasing (free_variables a)) (inside : track_of v (free_variables a) < length (free_variables a)) (X : Vector → Type 0) (body : SameSet (length (free_variables a)) X (Solutions a)) (B t j : ℕ)
-    (tracks_is : t ≡ length (free_variables a)) (track_is : j ≡ track_of v (free_variables a)) where
-  whole_size : t ≡ suc (length (vars_without v (free_variables a)))
-  whole_size = tracks_is ∙ sym (length-without v (free_variables a) up inside)
+    answers : Answers (length (vars_without v (free_variables a))) (suc (length (vars_without v (free_variables a)))) (track_of v (free_variables a))
+    answers (Ok h) has within refused full = (record {
+      solutions = has-same home lists rest rest (projected place X) (Solutions (Exists v a)) h refl whole has;
+      within = tree_within within;
+      residuals =
+          within-moved (SameFamily (RestrictsBy (suc rest) (without place)) (suc rest) X) (SameResidual rest (Solutions (Exists v a))) rest
+          (λ u w hu hw h. residual-moved rest (projected place X) (Solutions (Exists v a)) whole u w (family-residual rest place short X u w hu hw h)) B within;
+    }, tt)
+    answers (Err (op_fault.States b)) has within refused full =
+        (tt, (refused.0, above-moved (SameFamily (RestrictsBy (suc rest) (without place)) (suc rest) X) (SameValue (Exists v a)) rest (λ u w hu hw h. value-family u w h) B refused.1))
+    answers (Err (op_fault.Full shard count)) has within (is, at, lacks) full =
+        (tt, ((is, at), lacks-same home limit lists rest rest (projected place X) (Solutions (Exists v a)) refl whole lacks, tree_within (full shard count refl)))
+    answers (Err op_fault.NoMemory) has within refused full = (tt, tt)
 
-  less_one : t - 1 ≡ length (vars_without v (free_variables a))
-  less_one = let s = whole_size in omega (arith, s)
-
-  pub exists-ok : (r : Result Automaton TableFault) → IfOk r (λ table. table.tracks ≡ t - 1) → IfOk r (λ table. table.states ≤ B) → IfOk r (λ table. SameSet (t - 1) (SetOfState table 0) (projected j X)) →
-      IfOk r (λ table. CostWithin (SameFamily (RestrictsBy t (without j)) t X) (t - 1) B) → IfOk r (λ table. IsTableOf (Exists v a) B table)
-  exists-ok (Ok table) tracks few set within =
-      exists-table law v a up inside X body B table (tracks ∙ less_one) few
-      (subst (λ (i : ℕ). SameSet (length (vars_without v (free_variables a))) (SetOfState table 0) (projected i X)) track_is
-      (subst (λ (m : ℕ). SameSet m (SetOfState table 0) (projected j X)) less_one set))
-      (subst (λ (i : ℕ). CostWithin (SameFamily (RestrictsBy (suc (length (vars_without v (free_variables a)))) (without i)) (suc (length (vars_without v (free_variables a)))) X) (length (vars_without v (free_variables a))) B) track_is
-      (subst (λ (m : ℕ). CostWithin (SameFamily (RestrictsBy m (without j)) m X) (length (vars_without v (free_variables a))) B) whole_size
-      (subst (λ (m : ℕ). CostWithin (SameFamily (RestrictsBy t (without j)) t X) m B) less_one within)))
-  exists-ok (Err fault) tracks few set within = tt
-
-  pub exists-err : (r : Result Automaton TableFault) → IfErr r (StatesOnlyAbove (SameFamily (RestrictsBy t (without j)) t X) (t - 1) B) → IfErr r (RefusesTree (Exists v a) B)
-  exists-err (Ok table) refused = tt
-  exists-err (Err fault) refused =
-      exists-refused law v a up inside X body B fault
-      (subst (λ (i : ℕ). StatesOnlyAbove (SameFamily (RestrictsBy (suc (length (vars_without v (free_variables a)))) (without i)) (suc (length (vars_without v (free_variables a)))) X) (length (vars_without v (free_variables a))) B fault) track_is
-      (subst (λ (m : ℕ). StatesOnlyAbove (SameFamily (RestrictsBy m (without j)) m X) (length (vars_without v (free_variables a))) B fault) whole_size
-      (subst (λ (m : ℕ). StatesOnlyAbove (SameFamily (RestrictsBy t (without j)) t X) m B fault) less_one refused)))
+    pub exists-answers : (t j : ℕ) → t ≡ length (free_variables a) → j ≡ track_of v (free_variables a) → Answers (t - 1) t j
+    exists-answers t j tracks_is track_is =
+        let whole_size : t ≡ suc (length (vars_without v (free_variables a))) = tracks_is ∙ sym size in
+        let less_one : t - 1 ≡ length (vars_without v (free_variables a)) = omega (arith, whole_size) in
+        subst (λ (n : ℕ). Answers n t j) (sym less_one)
+        (subst (λ (m : ℕ). Answers (length (vars_without v (free_variables a))) m j) (sym whole_size)
+        (subst (λ (i : ℕ). Answers (length (vars_without v (free_variables a))) (suc (length (vars_without v (free_variables a)))) i) (sym track_is) answers))
 
 -- ---- a quantifier over a variable that is not free
 

@@ -4,3 +4,4 @@ pub mod Outcomes
 pub mod Parts
 pub mod Faults
 pub mod Laws
+pub mod Memos

@@ -1,11 +1,13 @@
 -- What is known of a node while a formula is evaluated.
-use Rattle.std.specs.Prelude.{◌≡◌, ◌⊎◌, ℕ, ◌<◌, ◌≤◌, List, length, nat_eq, slice_index, slice_index_or, unwrap_or}
+use Rattle.std.specs.Prelude.{◌≡◌, ◌⊎◌, ℕ, ◌<◌, ◌≤◌, List, length, nat_eq, slice_index, slice_index_or, unwrap_or, Result, Ok, Err}
 use Rattle.std.specs.HashMap.{HashMap, get}
 use Rattle.pt_sets.specs.Elements.{ContainsByRecursion}
 use Rattle.pt_sets.specs.Lists.{Lists, Home}
 use Rattle.pt_store.specs.declared.fault.StoreFault.{StoreFault}
 use Rattle.pt_store.specs.declared.fault.StoreFault.TheVariants.{Full, NoMemory}
 use Rattle.pt_handles.specs.declared.handle.Handle.{Handle}
+use Rattle.pt_handles.specs.declared.fault.OpFault.{OpFault}
+use Rattle.pt_handles.specs.declared.fault.OpFault.TheVariants as op
 use Rattle.pt_formula.specs.declared.node.Node.{Node}
 use Rattle.pt_formula.specs.declared.node.Position.{Position}
 use Rattle.pt_formula.specs.Formulas.{node_at, children, tree_of}
@@ -101,3 +103,10 @@ RefusesWhere P f bound home limit lists NoMemory = Unit {0}
 pub record AreWritten (nodes : List ℕ) (results : List Outcome) (n : ℕ) (old new : ℕ → Outcome) : Type 0 where
   pub each : (i : ℕ) → (new i ≡ old i) ⊎ ((k : ℕ) × (k < n) × (slice_index nodes k ≡ i) × (new i ≡ outcome_at results k))
   pub written : (k : ℕ) → k < n → (m : ℕ) × (m < n) × (slice_index nodes m ≡ slice_index nodes k) × (new (slice_index nodes k) ≡ outcome_at results m)
+
+-- what is known of a node whose solutions were asked for
+abbrev pub settled : Result Handle OpFault → Result Outcome StoreFault
+settled (Ok h) = Ok (Known h)
+settled (Err (op.States bound)) = Ok Costly
+settled (Err (op.Full shard count)) = Err (Full shard count)
+settled (Err op.NoMemory) = Err NoMemory

@@ -1,5 +1,5 @@
 // Evaluation of the roots of a formula.
-ghost use Rattle.std.specs.Prelude.{◌≡◌, ◌≢◌, ◌↔◌, ℕ, ◌+◌, ◌*◌, ◌<◌, ◌≤◌, length, map, slice_get, slice_index, Some, IfOk, IfErr, OnOk, IfSome, IfNone};
+ghost use Rattle.std.specs.Prelude.{◌≡◌, ◌≢◌, ◌⊎◌, ◌↔◌, ℕ, ◌+◌, ◌*◌, ◌<◌, ◌≤◌, length, map, slice_get, slice_index, Err, Some, IfOk, IfErr, OnOk, IfSome, IfNone};
 ghost use Rattle.std.specs.List.{AllByRecursion};
 ghost use Rattle.pt_sets.specs.Elements.{ContainsByRecursion};
 ghost use Rattle.pt_sets.specs.Lists.{Extends};
@@ -7,13 +7,17 @@ ghost use Rattle.pt_formula.specs.Forms.{IsIncreasing};
 ghost use Rattle.pt_formula.specs.Costs.{NoneRefused};
 ghost use Rattle.pt_handles.specs.declared.handle.Handle.{Handle as HandleValue};
 ghost use Rattle.pt_eval.specs.Evaluating.{HaveSolutions, KnowsReached, HaveFewResiduals, RefusesRoots, RefusesOneOf};
+ghost use Rattle.pt_store.specs.Interning.{no_memory as store_no_memory};
+ghost use Rattle.pt_eval.specs.Faults.{no_memory};
 ghost use Rattle.pt_eval.specs.Levels.{AreOrdered, IsPlanned};
+ghost use Rattle.pt_eval.specs.Memos.{AreGood};
 ghost use Rattle.pt_eval.specs.Outcomes.{AreOutcomes, AreWritten, IsSettled, RefusesWhere, costly, known, outcome_in};
 
 use crate::fault::EvalFault;
 use crate::gate::Gate;
 use crate::level::Level;
 use crate::levels::level_rows;
+use crate::memos::{Memos, Operations};
 use crate::outcome::{Outcome, Outcomes, outcome_of};
 use crate::reaching::reached;
 use pt_formula::{Formula, NodeId};
@@ -35,6 +39,10 @@ use std::thread::Threads;
 /// one can be made, and the passes are joined in the order of the workers; a level of one node is evaluated on the caller's
 /// thread.
 ///
+/// `memos` has the last operations of each worker, at least so many as there are workers. An operation that stands there is not
+/// built again: it takes a hash look-up, and its cost is compared with the bound as if it were. After want of memory some of
+/// them may be lost.
+///
 /// Refuses for want of memory; with `Full` only where the list of that shard has as many codes as it may hold and the lists
 /// lack the solutions of a node that the roots reach whose cost, and that of each descendant, is within the bound; and with
 /// `States` exactly at the node of least number, among the roots and their descendants, whose cost is over the bound and
@@ -53,6 +61,7 @@ pub fn evaluate<I: Sharing, G: Gate, R: Threads + Sync>(
     bound: u32,
     workers: u32,
     gate: &G,
+    memos: &mut Memos,
 ) -> Result<Vec<Handle>, EvalFault>
 where
     I::Pass: Send,
@@ -62,8 +71,12 @@ where
     requires few { bound ≤ 65536 }
     requires some_worker { 0 < workers }
     requires few_workers { workers ≤ 16 }
+    requires good { AreGood I.Pass.home (I.Pass.lists pass.old) memos.old }
+    requires enough { workers ≤ length memos.old }
     ensures kept { I.owns store.now pass.new }
     ensures extends { Extends (I.Pass.lists pass.old) (I.Pass.lists pass.new) }
+    ensures good { AreGood I.Pass.home (I.Pass.lists pass.new) memos.new }
+    ensures members { (length memos.new ≡ length memos.old) ⊎ (result ≡ Err no_memory) }
     ensures ok { IfOk result (λ handles. HaveSolutions I.Pass.home (I.Pass.lists pass.new) formula.now roots.now handles.items) }
     ensures reached { OnOk result (KnowsReached I.Pass.home (I.Pass.lists pass.new) formula.now roots.now) }
     ensures within { OnOk result (NoneRefused formula.now roots.now bound) }
@@ -76,7 +89,16 @@ where
     let nodes = reached(alloc, formula, roots)?;
     let rows = level_rows(alloc, formula, &nodes)?;
     let outcomes = match evaluate_rows(
-        rt, alloc, store, pass, formula, bound, workers, gate, &rows,
+        rt,
+        alloc,
+        store,
+        pass,
+        formula,
+        bound,
+        workers,
+        gate,
+        &mut memos.workers,
+        &rows,
     ) {
         Ok(outcomes) => outcomes,
         Err(fault) => return Err(EvalFault::from(fault)),
@@ -98,6 +120,7 @@ fn evaluate_rows<I: Sharing, G: Gate, R: Threads + Sync>(
     bound: u32,
     workers: u32,
     gate: &G,
+    last: &mut Vec<Operations>,
     rows: &[Vec<NodeId>],
 ) -> Result<Outcomes, StoreFault>
 where
@@ -107,8 +130,12 @@ where
     requires some { 0 < bound }
     requires few { bound ≤ 65536 }
     requires some_worker { 0 < workers }
+    requires good { AreGood I.Pass.home (I.Pass.lists pass.old) last.old.items }
+    requires enough { workers ≤ length last.old.items }
     ensures kept { I.owns store.now pass.new }
     ensures extends { Extends (I.Pass.lists pass.old) (I.Pass.lists pass.new) }
+    ensures good { AreGood I.Pass.home (I.Pass.lists pass.new) last.new.items }
+    ensures members { (length last.new.items ≡ length last.old.items) ⊎ (result ≡ Err store_no_memory) }
     ensures outcomes { IfOk result (λ outcomes. AreOutcomes I.Pass.home (I.Pass.lists pass.new) formula.now bound (outcome_in outcomes)) }
     ensures settled { IfOk result (λ outcomes. (i : ℕ) → IsSettled (outcome_in outcomes i) ↔ IsPlanned rows.now i) }
     ensures err { IfErr result (RefusesWhere (IsPlanned rows.now) formula.now bound I.Pass.home (I.limit_of store.now) (I.Pass.lists pass.new)) }
@@ -123,7 +150,7 @@ where
             gate,
             outcomes: &outcomes,
         };
-        let told = match share(rt, alloc, store, pass, &level, row, workers) {
+        let told = match share(rt, alloc, store, pass, &level, last, row, workers) {
             Ok(told) => told,
             Err(fault) => return Err(fault),
         };

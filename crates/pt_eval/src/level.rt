@@ -1,9 +1,11 @@
 // The nodes of one level, as work that is done by number.
 ghost use Rattle.std.specs.Prelude.{◌<◌, ◌≤◌, length};
 ghost use Rattle.pt_eval.specs.Evaluating.{IsCheap, LacksSolutions};
+ghost use Rattle.pt_eval.specs.Memos.{IsGood};
 ghost use Rattle.pt_eval.specs.Outcomes.{MayBegin, IsResult, outcome_in};
 
 use crate::gate::Gate;
+use crate::memos::Operations;
 use crate::node::evaluate_node;
 use crate::outcome::{Outcome, Outcomes};
 use pt_formula::{Formula, NodeId};
@@ -26,6 +28,10 @@ pub(crate) struct Level<'a, G> {
 impl<'a, G: Gate> Work for Level<'a, G> {
     type Answer = Outcome;
 
+    type Kept = Operations;
+
+    ghost good = { λ _ home lists w. IsGood home lists w };
+
     ghost may_begin = { λ l home lists i. MayBegin home lists l.formula.now l.bound (outcome_in l.outcomes.now) i };
 
     ghost gives = { λ l home lists i outcome. IsResult home lists l.formula.now l.bound i outcome };
@@ -40,6 +46,7 @@ impl<'a, G: Gate> Work for Level<'a, G> {
         alloc: Global,
         store: &I,
         pass: &mut I::Pass,
+        kept: &mut Operations,
         number: NodeId,
     ) -> Result<Outcome, StoreFault> {
         self.gate.start(number);
@@ -48,6 +55,7 @@ impl<'a, G: Gate> Work for Level<'a, G> {
             alloc,
             store,
             pass,
+            kept,
             self.formula,
             self.bound,
             self.outcomes,
@@ -59,5 +67,7 @@ impl<'a, G: Gate> Work for Level<'a, G> {
 
     fn lasts(&self) {
         longer_lists_know();
+        pt_product::good_answers_stay_good();
+        pt_project::good_answers_stay_good();
     }
 }

@@ -7,7 +7,9 @@ mod gate;
 mod laws;
 mod level;
 mod levels;
+mod memos;
 mod node;
+mod operations;
 mod outcome;
 mod reaching;
 mod tables;
@@ -16,6 +18,7 @@ mod tracks;
 pub use evaluation::evaluate;
 pub use fault::EvalFault;
 pub use gate::{Gate, Open};
+pub use memos::{Memos, Operations};
 pub use laws::{handles_of_solutions_are_widened_by_tracks, refusals_are_exact};
 pub use tracks::track_map;
 

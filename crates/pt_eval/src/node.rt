@@ -4,17 +4,20 @@ ghost use Rattle.pt_sets.specs.Automata.{IsReduced};
 ghost use Rattle.pt_sets.specs.Lists.{Extends};
 ghost use Rattle.pt_formula.specs.declared.node.Node.TheVariants.{Not as NotNode, Exists as ExistsNode};
 ghost use Rattle.pt_formula.specs.Formulas.{node_at, op_node, tree_of};
-ghost use Rattle.pt_eval.specs.Outcomes.{AreOutcomes, HasSettledChildren, IsCheapBelow, IsRefusal, IsResult, IsSettled, RefusesWhere, known, outcome_in};
+ghost use Rattle.pt_eval.specs.Outcomes.{AreOutcomes, HasSettledChildren, IsCheapBelow, IsRefusal, IsResult, IsSettled, RefusesWhere, known, outcome_in, settled};
+ghost use Rattle.pt_eval.specs.Memos.{IsGood};
 ghost use Rattle.pt_eval.specs.Parts.{IsTableOf, RefusesTree};
 
+use crate::memos::Operations;
+use crate::operations::{binary_solutions, exists_solutions};
 use crate::outcome::{Outcome, Outcomes, outcome_of};
-use crate::tables::{atom_solutions, binary_solutions, exists_solutions, truth_solutions};
+use crate::tables::{atom_solutions, truth_solutions};
 use crate::tracks::track;
 use pt_formula::laws::{
     trees_are_made_of_those_of_the_children, truth_depends_on_free_variables_alone,
 };
 use pt_formula::{Formula, Node, NodeId, Op, Var};
-use pt_handles::{Handle, TableFault, adopt, adopt_reduced};
+use pt_handles::{Handle, OpFault, TableFault, adopt_reduced};
 use pt_product::complement;
 use pt_store::{Codes, Interner, StoreFault};
 use pt_tables::Table;
@@ -33,41 +36,19 @@ fn handle_of(outcomes: &Outcomes, node: NodeId) -> Option<Handle>
     }
 }
 
-/// The outcome at a node whose automaton was made or refused.
-fn settle<I: Interner, R: Threads + Sync>(
-    rt: &R,
-    alloc: Global,
-    store: &I,
-    pass: &mut I::Pass,
-    formula: &Formula,
-    bound: u32,
-    id: NodeId,
-    made: Result<Table, TableFault>,
-) -> Result<Outcome, StoreFault>
-    requires owned { I.owns store.now pass.old }
-    requires below { IsCheapBelow formula.now bound id }
-    requires ok { IfOk made (λ table. IsTableOf (tree_of formula.now id) bound table) }
-    requires err { IfErr made (RefusesTree (tree_of formula.now id) bound) }
-    ensures kept { I.owns store.now pass.new }
-    ensures extends { Extends (I.Pass.lists pass.old) (I.Pass.lists pass.new) }
-    ensures ok { IfOk result (IsResult I.Pass.home (I.Pass.lists pass.new) formula.now bound id) }
-    ensures err { IfErr result (RefusesWhere (λ i. id ≡ i) formula.now bound I.Pass.home (I.limit_of store.now) (I.Pass.lists pass.new)) }
-    ensures offers { I.Pass.offered pass.new ≤ I.Pass.offered pass.old + bound }
+/// The outcome at a node whose solutions were asked for.
+fn settle(made: Result<Handle, OpFault>) -> Result<Outcome, StoreFault>
+    ensures { result ≡ settled made }
 {
     match made {
-        Ok(table) => {
-            table.is_automaton();
-            match adopt(rt, alloc, store, pass, &table, 0) {
-                Ok(handle) => Ok(Outcome::Known(handle)),
-                Err(fault) => Err(fault),
-            }
-        }
-        Err(TableFault::States { bound: _ }) => Ok(Outcome::Costly),
-        Err(TableFault::NoMemory) => Err(StoreFault::NoMemory),
+        Ok(handle) => Ok(Outcome::Known(handle)),
+        Err(OpFault::States { bound: _ }) => Ok(Outcome::Costly),
+        Err(OpFault::Full { shard, count }) => Err(StoreFault::Full { shard, count }),
+        Err(OpFault::NoMemory) => Err(StoreFault::NoMemory),
     }
 }
 
-/// The same where the automaton is reduced as it is made.
+/// The outcome at a node whose reduced automaton was made or refused.
 fn settle_reduced<I: Interner>(
     alloc: Global,
     store: &I,
@@ -141,6 +122,7 @@ fn evaluate_binary<I: Interner, R: Threads + Sync>(
     alloc: Global,
     store: &I,
     pass: &mut I::Pass,
+    last: &mut Operations,
     formula: &Formula,
     bound: u32,
     outcomes: &Outcomes,
@@ -150,6 +132,7 @@ fn evaluate_binary<I: Interner, R: Threads + Sync>(
     b: NodeId,
 ) -> Result<Outcome, StoreFault>
     requires owned { I.owns store.now pass.old }
+    requires good { IsGood I.Pass.home (I.Pass.lists pass.old) last.old }
     requires outcomes { AreOutcomes I.Pass.home (I.Pass.lists pass.old) formula.now bound (outcome_in outcomes.now) }
     requires id { id < length formula.now }
     requires node { node_at formula.now id ≡ op_node op a b }
@@ -158,10 +141,12 @@ fn evaluate_binary<I: Interner, R: Threads + Sync>(
     requires few { bound ≤ 65536 }
     ensures kept { I.owns store.now pass.new }
     ensures extends { Extends (I.Pass.lists pass.old) (I.Pass.lists pass.new) }
+    ensures good { IsGood I.Pass.home (I.Pass.lists pass.new) last.new }
     ensures ok { IfOk result (IsResult I.Pass.home (I.Pass.lists pass.new) formula.now bound id) }
     ensures err { IfErr result (RefusesWhere (λ i. id ≡ i) formula.now bound I.Pass.home (I.limit_of store.now) (I.Pass.lists pass.new)) }
     ensures offers { I.Pass.offered pass.new ≤ I.Pass.offered pass.old + bound }
 {
+    pt_project::good_answers_stay_good();
     formula.is_formula();
     let Some(left) = handle_of(outcomes, a) else {
         return Ok(Outcome::LeftOut);
@@ -169,8 +154,21 @@ fn evaluate_binary<I: Interner, R: Threads + Sync>(
     let Some(right) = handle_of(outcomes, b) else {
         return Ok(Outcome::LeftOut);
     };
-    let made = binary_solutions(alloc, &*pass, formula, id, op, a, b, left, right, bound);
-    settle(rt, alloc, store, pass, formula, bound, id, made)
+    settle(binary_solutions(
+        rt,
+        alloc,
+        store,
+        pass,
+        &mut last.combined,
+        formula,
+        id,
+        op,
+        a,
+        b,
+        left,
+        right,
+        bound,
+    ))
 }
 
 /// The outcome at a quantifier. Where the variable is not free in the body, the solutions are the body's.
@@ -179,6 +177,7 @@ fn evaluate_exists<I: Interner, R: Threads + Sync>(
     alloc: Global,
     store: &I,
     pass: &mut I::Pass,
+    last: &mut Operations,
     formula: &Formula,
     bound: u32,
     outcomes: &Outcomes,
@@ -187,6 +186,7 @@ fn evaluate_exists<I: Interner, R: Threads + Sync>(
     a: NodeId,
 ) -> Result<Outcome, StoreFault>
     requires owned { I.owns store.now pass.old }
+    requires good { IsGood I.Pass.home (I.Pass.lists pass.old) last.old }
     requires outcomes { AreOutcomes I.Pass.home (I.Pass.lists pass.old) formula.now bound (outcome_in outcomes.now) }
     requires id { id < length formula.now }
     requires node { node_at formula.now id ≡ ExistsNode v a }
@@ -195,10 +195,12 @@ fn evaluate_exists<I: Interner, R: Threads + Sync>(
     requires few { bound ≤ 65536 }
     ensures kept { I.owns store.now pass.new }
     ensures extends { Extends (I.Pass.lists pass.old) (I.Pass.lists pass.new) }
+    ensures good { IsGood I.Pass.home (I.Pass.lists pass.new) last.new }
     ensures ok { IfOk result (IsResult I.Pass.home (I.Pass.lists pass.new) formula.now bound id) }
     ensures err { IfErr result (RefusesWhere (λ i. id ≡ i) formula.now bound I.Pass.home (I.limit_of store.now) (I.Pass.lists pass.new)) }
     ensures offers { I.Pass.offered pass.new ≤ I.Pass.offered pass.old + bound }
 {
+    pt_product::good_answers_stay_good();
     truth_depends_on_free_variables_alone();
     trees_are_made_of_those_of_the_children();
     formula.is_formula();
@@ -209,8 +211,18 @@ fn evaluate_exists<I: Interner, R: Threads + Sync>(
     if track(v, variables) == variables.len() {
         return Ok(Outcome::Known(body));
     }
-    let made = exists_solutions(alloc, &*pass, formula, v, a, body, bound);
-    settle(rt, alloc, store, pass, formula, bound, id, made)
+    settle(exists_solutions(
+        rt,
+        alloc,
+        store,
+        pass,
+        &mut last.projected,
+        formula,
+        v,
+        a,
+        body,
+        bound,
+    ))
 }
 
 /// The outcome at a node whose children are done with: a known handle of its solutions; or that its cost is over the bound;
@@ -222,12 +234,14 @@ pub(crate) fn evaluate_node<I: Interner, R: Threads + Sync>(
     alloc: Global,
     store: &I,
     pass: &mut I::Pass,
+    last: &mut Operations,
     formula: &Formula,
     bound: u32,
     outcomes: &Outcomes,
     id: NodeId,
 ) -> Result<Outcome, StoreFault>
     requires owned { I.owns store.now pass.old }
+    requires good { IsGood I.Pass.home (I.Pass.lists pass.old) last.old }
     requires outcomes { AreOutcomes I.Pass.home (I.Pass.lists pass.old) formula.now bound (outcome_in outcomes.now) }
     requires id { id < length formula.now }
     requires ready { HasSettledChildren formula.now (outcome_in outcomes.now) id }
@@ -235,10 +249,13 @@ pub(crate) fn evaluate_node<I: Interner, R: Threads + Sync>(
     requires few { bound ≤ 65536 }
     ensures kept { I.owns store.now pass.new }
     ensures extends { Extends (I.Pass.lists pass.old) (I.Pass.lists pass.new) }
+    ensures good { IsGood I.Pass.home (I.Pass.lists pass.new) last.new }
     ensures ok { IfOk result (IsResult I.Pass.home (I.Pass.lists pass.new) formula.now bound id) }
     ensures err { IfErr result (RefusesWhere (λ i. id ≡ i) formula.now bound I.Pass.home (I.limit_of store.now) (I.Pass.lists pass.new)) }
     ensures offers { I.Pass.offered pass.new ≤ I.Pass.offered pass.old + bound }
 {
+    pt_product::good_answers_stay_good();
+    pt_project::good_answers_stay_good();
     trees_are_made_of_those_of_the_children();
     formula.is_formula();
     let (op, a, b) = match formula.node(id) {
@@ -262,7 +279,7 @@ pub(crate) fn evaluate_node<I: Interner, R: Threads + Sync>(
             return evaluate_not(rt, alloc, store, pass, formula, bound, outcomes, id, *a);
         }
         Node::Exists(v, a) => {
-            return evaluate_exists(rt, alloc, store, pass, formula, bound, outcomes, id, *v, *a);
+            return evaluate_exists(rt, alloc, store, pass, last, formula, bound, outcomes, id, *v, *a);
         }
         Node::And(a, b) => (Op::And, *a, *b),
         Node::Or(a, b) => (Op::Or, *a, *b),
@@ -270,6 +287,6 @@ pub(crate) fn evaluate_node<I: Interner, R: Threads + Sync>(
         Node::Xor(a, b) => (Op::Xor, *a, *b),
     };
     evaluate_binary(
-        rt, alloc, store, pass, formula, bound, outcomes, id, op, a, b,
+        rt, alloc, store, pass, last, formula, bound, outcomes, id, op, a, b,
     )
 }

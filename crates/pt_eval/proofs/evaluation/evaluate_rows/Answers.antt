@@ -1,4 +1,4 @@
-use Rattle.std.proofs.Common.{◌≡◌, ◌+◌, ◌*◌, ◌≤◌, ℕ, List, length, map, take, sym, subst, ◌∙◌, arith}
+use Rattle.std.proofs.Common.{inl, inr, ◌≡◌, ◌+◌, ◌*◌, ◌≤◌, ℕ, List, length, map, take, sym, subst, ◌∙◌, arith}
 use Rattle.std.specs.Prelude.{◌↔◌}
 use Rattle.std.proofs.lemmas.List.{length-map}
 use Rattle.pt_sets.specs.Elements.{ContainsByRecursion}
@@ -83,6 +83,8 @@ loop-row-preserved g c =
     record {
       kept = after.kept;
       extends = Extends-trans (g.I.Pass.Codes.lists c.args.pass.now) old new before.extends after.extends;
+      good = after.good;
+      members = elim after.count [ inl same ↦ same ∙ before.members | inr none ↦ absurd (let ok = sym c.in-Ok.is ∙ none in cc) ];
       outcomes = level-outcomes home new f bound nodes results os ps longer are written;
       settled = done-more rows n os ps nodes same (level-settled home new f bound nodes results os ps longer are written) (settled-level home new f bound nodes results os ps longer are written) before.settled;
       offers = offers-within (g.I.Pass.Codes.offered c.args.pass.now) (g.I.Pass.Codes.offered c.loop-row.pass) (g.I.Pass.Codes.offered c.share.new.pass) (total (take n rows)) (length c.deref.result.now) (total (take (n + 1) rows)) bound before.offers offered most;

@@ -1,8 +1,9 @@
-use Rattle.std.proofs.Common.{◌+◌, ◌*◌, ◌<◌, ◌≤◌, ℕ, take}
+use Rattle.std.proofs.Common.{◌≡◌, ◌+◌, ◌*◌, ◌<◌, ◌≤◌, ℕ, length, take}
 use Rattle.std.specs.Prelude.{◌↔◌}
 use Rattle.pt_sets.specs.Elements.{ContainsByRecursion}
 use Rattle.pt_sets.specs.Lists.{Extends}
 use Rattle.pt_eval.specs.Levels.{row_of, total}
+use Rattle.pt_eval.specs.Memos.{AreGood}
 use Rattle.pt_eval.specs.Outcomes.{AreOutcomes, IsSettled, outcome_in}
 use Rattle.pt_eval.proofs.evaluation.evaluate_rows.Given as goal
 
@@ -10,6 +11,8 @@ abbrev pub invariant-loop-row : goal.invariant-loop-row
 invariant-loop-row g l = record {
   kept : g.I.Interner.owns l.store l.pass;
   extends : Extends (g.I.Pass.Codes.lists l.initial.pass) (g.I.Pass.Codes.lists l.pass);
+  good : AreGood g.I.Pass.Codes.home (g.I.Pass.Codes.lists l.pass) l.last.items;
+  members : length l.last.items ≡ length l.initial.last.items;
   outcomes : AreOutcomes g.I.Pass.Codes.home (g.I.Pass.Codes.lists l.pass) l.formula l.bound (outcome_in l.outcomes);
   settled : (i : ℕ) → IsSettled (outcome_in l.outcomes i) ↔ ((y : ℕ) × (y < l.row-index) × ContainsByRecursion i (row_of l.rows y));
   offers : g.I.Pass.Codes.offered l.pass ≤ g.I.Pass.Codes.offered l.initial.pass + total (take l.row-index l.rows) * l.bound;

@@ -12,3 +12,9 @@ returns-clause-gives g c home old new number answer longer is =
 
 pub returns-clause-lacks : goal.returns-clause-lacks
 returns-clause-lacks g c home limit old new number longer (cheap, lacks) = (cheap, lacks-longer home limit old new longer c.args.self.now.formula.now number lacks)
+
+pub returns-clause-good : goal.returns-clause-good
+returns-clause-good g c home old new kept longer is = record {
+  combined = c.good_answers_stay_good.ensures home old new kept.combined.entries longer is.combined;
+  projected = c.good_answers_stay_good-2.ensures home old new kept.projected.entries longer is.projected;
+}
