@@ -187,13 +187,16 @@ module _ (law : TruthLaw) (v : ℕ) (a : Tree) (up : IsIncreasing (free_variable
     tree_within within = within-moved (SameFamily (RestrictsBy (suc rest) (without place)) (suc rest) X) (SameValue (Exists v a)) rest (λ u w hu hw h. family-value u w h) B within
 
     answers : Answers (length (vars_without v (free_variables a))) (suc (length (vars_without v (free_variables a)))) (track_of v (free_variables a))
-    answers (Ok h) has within refused full = (record {
-      solutions = has-same home lists rest rest (projected place X) (Solutions (Exists v a)) h refl whole has;
-      within = tree_within within;
-      residuals =
-          within-moved (SameFamily (RestrictsBy (suc rest) (without place)) (suc rest) X) (SameResidual rest (Solutions (Exists v a))) rest
-          (λ u w hu hw h. residual-moved rest (projected place X) (Solutions (Exists v a)) whole u w (family-residual rest place short X u w hu hw h)) B within;
-    }, tt)
+    answers (Ok h) has within refused full = (
+      record {
+        solutions = has-same home lists rest rest (projected place X) (Solutions (Exists v a)) h refl whole has;
+        within = tree_within within;
+        residuals =
+            within-moved (SameFamily (RestrictsBy (suc rest) (without place)) (suc rest) X) (SameResidual rest (Solutions (Exists v a))) rest
+            (λ u w hu hw h. residual-moved rest (projected place X) (Solutions (Exists v a)) whole u w (family-residual rest place short X u w hu hw h)) B within;
+      },
+      tt,
+    )
     answers (Err (op_fault.States b)) has within refused full =
         (tt, (refused.0, above-moved (SameFamily (RestrictsBy (suc rest) (without place)) (suc rest) X) (SameValue (Exists v a)) rest (λ u w hu hw h. value-family u w h) B refused.1))
     answers (Err (op_fault.Full shard count)) has within (is, at, lacks) full =

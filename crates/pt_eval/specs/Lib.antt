@@ -5,3 +5,4 @@ pub mod Parts
 pub mod Faults
 pub mod Laws
 pub mod Memos
+pub mod Forms

@@ -3,10 +3,12 @@ use Rattle.std.specs.Prelude.{ℕ, ◌+◌, List, All}
 use Rattle.pt_sets.specs.Lists.{Lists, Home}
 use Rattle.pt_product.specs.Caching.{IsGood as AreCombined}
 use Rattle.pt_project.specs.Caching.{IsGood as AreProjected}
+use Rattle.pt_eval.specs.Forms.{AreBuilt}
 use Rattle.pt_eval.specs.declared.memos.Operations.{Operations}
 
 -- each answer that a worker keeps is right for the lists
 pub record IsGood (home : Home) (lists : Lists) (w : Operations) : Type 0 where
+  pub atoms : AreBuilt home lists w.atoms.entries
   pub combined : AreCombined home lists w.combined.entries
   pub projected : AreProjected home lists w.projected.entries
 

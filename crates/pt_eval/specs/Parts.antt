@@ -17,19 +17,6 @@ use Rattle.pt_handles.specs.declared.fault.OpFault.{OpFault}
 use Rattle.pt_handles.specs.declared.fault.OpFault.TheVariants as op
 use Rattle.pt_eval.specs.Evaluating.{IsFullAt}
 
--- The automaton has the solutions of a tree over its free variables at state 0, and few states; the cost of the tree is
--- within the bound, and so is the number of residuals.
-pub record IsTableOf (t : Tree) (bound : ℕ) (table : Automaton) : Type 0 where
-  pub tracks : table.tracks ≡ length (free_variables t)
-  pub few : table.states ≤ bound
-  pub set : SameSet (length (free_variables t)) (SetOfState table 0) (Solutions t)
-  pub within : TreeCostWithin t bound
-  pub residuals : CostWithin (SameResidual (length (free_variables t)) (Solutions t)) (length (free_variables t)) bound
-
--- there is no automaton only where the cost of the tree is over the bound
-abbrev pub RefusesTree : Tree → ℕ → TableFault → Type 0
-RefusesTree t bound = StatesOnlyAbove (SameValue t) (length (free_variables t)) bound
-
 -- A known handle of the solutions of a tree over its free variables; the cost of the tree is within the bound, and so is
 -- the number of residuals.
 pub record IsHandleOf (home : Home) (lists : Lists) (t : Tree) (bound : ℕ) (h : Handle) : Type 0 where
@@ -47,10 +34,6 @@ RefusesHandle home limit lists t bound op.NoMemory = Unit {0}
 -- the track of each of the variables
 abbrev pub tracks_of : List ℕ → List ℕ → List ℕ
 tracks_of inner outer = map (λ v. track_of v outer) inner
-
--- there is no automaton only where the residuals of the form are more than the bound
-abbrev pub RefusesForm : Normal → ℕ → TableFault → Type 0
-RefusesForm n bound = StatesOnlyAbove (SameResidual (length n.coefficients) (NormalSet n)) (length n.coefficients) bound
 
 abbrev pub truth_tree : Bool → Tree
 truth_tree true = True

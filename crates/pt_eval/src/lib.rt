@@ -3,8 +3,10 @@
 
 mod evaluation;
 mod fault;
+mod forms;
 mod gate;
 mod laws;
+mod leaves;
 mod level;
 mod levels;
 mod memos;
@@ -12,14 +14,14 @@ mod node;
 mod operations;
 mod outcome;
 mod reaching;
-mod tables;
 mod tracks;
 
 pub use evaluation::evaluate;
 pub use fault::EvalFault;
+pub use forms::{AtomMemo, Form};
 pub use gate::{Gate, Open};
-pub use memos::{Memos, Operations};
 pub use laws::{handles_of_solutions_are_widened_by_tracks, refusals_are_exact};
+pub use memos::{Memos, Operations};
 pub use tracks::track_map;
 
 #[cfg(test)]

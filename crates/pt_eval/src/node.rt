@@ -1,26 +1,23 @@
 // Evaluation of one node, from the outcomes of its children.
 ghost use Rattle.std.specs.Prelude.{◌≡◌, ◌+◌, ◌<◌, ◌≤◌, length, IfOk, IfErr, IfSome, IfNone};
-ghost use Rattle.pt_sets.specs.Automata.{IsReduced};
 ghost use Rattle.pt_sets.specs.Lists.{Extends};
 ghost use Rattle.pt_formula.specs.declared.node.Node.TheVariants.{Not as NotNode, Exists as ExistsNode};
 ghost use Rattle.pt_formula.specs.Formulas.{node_at, op_node, tree_of};
-ghost use Rattle.pt_eval.specs.Outcomes.{AreOutcomes, HasSettledChildren, IsCheapBelow, IsRefusal, IsResult, IsSettled, RefusesWhere, known, outcome_in, settled};
+ghost use Rattle.pt_eval.specs.Outcomes.{AreOutcomes, HasSettledChildren, IsRefusal, IsResult, IsSettled, RefusesWhere, known, outcome_in, settled};
 ghost use Rattle.pt_eval.specs.Memos.{IsGood};
-ghost use Rattle.pt_eval.specs.Parts.{IsTableOf, RefusesTree};
 
+use crate::leaves::{atom_solutions, truth_solutions};
 use crate::memos::Operations;
 use crate::operations::{binary_solutions, exists_solutions};
 use crate::outcome::{Outcome, Outcomes, outcome_of};
-use crate::tables::{atom_solutions, truth_solutions};
 use crate::tracks::track;
 use pt_formula::laws::{
     trees_are_made_of_those_of_the_children, truth_depends_on_free_variables_alone,
 };
 use pt_formula::{Formula, Node, NodeId, Op, Var};
-use pt_handles::{Handle, OpFault, TableFault, adopt_reduced};
+use pt_handles::{Handle, OpFault};
 use pt_product::complement;
 use pt_store::{Codes, Interner, StoreFault};
-use pt_tables::Table;
 use std::alloc::Global;
 use std::thread::Threads;
 
@@ -45,40 +42,6 @@ fn settle(made: Result<Handle, OpFault>) -> Result<Outcome, StoreFault>
         Err(OpFault::States { bound: _ }) => Ok(Outcome::Costly),
         Err(OpFault::Full { shard, count }) => Err(StoreFault::Full { shard, count }),
         Err(OpFault::NoMemory) => Err(StoreFault::NoMemory),
-    }
-}
-
-/// The outcome at a node whose reduced automaton was made or refused.
-fn settle_reduced<I: Interner>(
-    alloc: Global,
-    store: &I,
-    pass: &mut I::Pass,
-    formula: &Formula,
-    bound: u32,
-    id: NodeId,
-    made: Result<Table, TableFault>,
-) -> Result<Outcome, StoreFault>
-    requires owned { I.owns store.now pass.old }
-    requires below { IsCheapBelow formula.now bound id }
-    requires ok { IfOk made (λ table. IsTableOf (tree_of formula.now id) bound table) }
-    requires err { IfErr made (RefusesTree (tree_of formula.now id) bound) }
-    requires reduced { IfOk made IsReduced }
-    ensures kept { I.owns store.now pass.new }
-    ensures extends { Extends (I.Pass.lists pass.old) (I.Pass.lists pass.new) }
-    ensures ok { IfOk result (IsResult I.Pass.home (I.Pass.lists pass.new) formula.now bound id) }
-    ensures err { IfErr result (RefusesWhere (λ i. id ≡ i) formula.now bound I.Pass.home (I.limit_of store.now) (I.Pass.lists pass.new)) }
-    ensures offers { I.Pass.offered pass.new ≤ I.Pass.offered pass.old + bound }
-{
-    match made {
-        Ok(table) => {
-            table.is_automaton();
-            match adopt_reduced(alloc, store, pass, &table, 0) {
-                Ok(handle) => Ok(Outcome::Known(handle)),
-                Err(fault) => Err(fault),
-            }
-        }
-        Err(TableFault::States { bound: _ }) => Ok(Outcome::Costly),
-        Err(TableFault::NoMemory) => Err(StoreFault::NoMemory),
     }
 }
 
@@ -260,26 +223,34 @@ pub(crate) fn evaluate_node<I: Interner, R: Threads + Sync>(
     formula.is_formula();
     let (op, a, b) = match formula.node(id) {
         Node::True => {
-            let made = truth_solutions(alloc, true, bound);
-            return settle_reduced(alloc, store, pass, formula, bound, id, made);
+            return settle(truth_solutions(alloc, store, pass, &mut last.atoms, true, bound));
         }
         Node::False => {
-            let made = truth_solutions(alloc, false, bound);
-            return settle_reduced(alloc, store, pass, formula, bound, id, made);
+            return settle(truth_solutions(alloc, store, pass, &mut last.atoms, false, bound));
         }
         Node::Atom {
             kind,
             terms,
             constant,
         } => {
-            let made = atom_solutions(alloc, *kind, terms.as_slice(), *constant, bound);
-            return settle_reduced(alloc, store, pass, formula, bound, id, made);
+            return settle(atom_solutions(
+                alloc,
+                store,
+                pass,
+                &mut last.atoms,
+                *kind,
+                terms.as_slice(),
+                *constant,
+                bound,
+            ));
         }
         Node::Not(a) => {
             return evaluate_not(rt, alloc, store, pass, formula, bound, outcomes, id, *a);
         }
         Node::Exists(v, a) => {
-            return evaluate_exists(rt, alloc, store, pass, last, formula, bound, outcomes, id, *v, *a);
+            return evaluate_exists(
+                rt, alloc, store, pass, last, formula, bound, outcomes, id, *v, *a,
+            );
         }
         Node::And(a, b) => (Op::And, *a, *b),
         Node::Or(a, b) => (Op::Or, *a, *b),

@@ -95,6 +95,7 @@ fn solve<G: Gate, R: Threads + Sync>(
         return Err("limit or workers")?;
     }
     let (store, mut pass) = SharedStore::new(alloc, 1, limit, OneShard)?;
+    let mut memos = Memos::new(alloc, workers, 8)?;
     match evaluate(
         rt,
         alloc,
@@ -105,6 +106,7 @@ fn solve<G: Gate, R: Threads + Sync>(
         bound,
         workers,
         gate,
+        &mut memos,
     ) {
         Ok(handles) => {
             let (first, first_start) = expand(alloc, &pass, handles[0])?;
@@ -220,6 +222,7 @@ fn a_full_store_takes_a_code_that_it_has(rt: HostRuntime) -> Result<(), Fail> {
         return Err("root")?;
     }
     let (store, mut pass) = SharedStore::new(alloc, 1, 1, OneShard)?;
+    let mut memos = Memos::new(alloc, 1, 1)?;
     let ended = evaluate(
         &rt,
         alloc,
@@ -230,6 +233,7 @@ fn a_full_store_takes_a_code_that_it_has(rt: HostRuntime) -> Result<(), Fail> {
         16,
         1,
         &Open,
+        &mut memos,
     );
     assert!(rt; ended.err() == Some(EvalFault::Full { shard: 0, count: 1 }));
     let first = Place { shard: 0, index: 0 };

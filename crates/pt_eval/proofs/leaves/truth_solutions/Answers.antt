@@ -5,7 +5,7 @@ use Rattle.pt_atoms.specs.declared.NormalKind.TheVariants.{Always}
 use Rattle.pt_atoms.specs.Tables.{IsAtomTable, ResidualsWithin}
 use Rattle.pt_eval.specs.Parts.{RefusesForm, truth_tree}
 use Rattle.pt_eval.proofs.LeafLaws.{truth_form, truth-leaf, truth-tracks, truth-set, leaf-ok, leaf-err}
-use Rattle.pt_eval.proofs.tables.truth_solutions.Goals as goal
+use Rattle.pt_eval.proofs.leaves.truth_solutions.Goals as goal
 
 pub returns-clause-ok : goal.returns-clause-ok
 returns-clause-ok c =

@@ -5,7 +5,7 @@ use Rattle.pt_sets.specs.Sets.{SameSet}
 use Rattle.pt_atoms.specs.Atoms.{NormalSet, AtomSet}
 use Rattle.pt_formula.specs.Truth.{Atom}
 use Rattle.pt_eval.proofs.LeafLaws.{atom-same, leaf-ok, leaf-err}
-use Rattle.pt_eval.proofs.tables.atom_solutions.Goals as goal
+use Rattle.pt_eval.proofs.leaves.atom_solutions.Goals as goal
 
 pub returns-clause-ok : goal.returns-clause-ok
 returns-clause-ok c =
