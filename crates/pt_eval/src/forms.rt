@@ -1,9 +1,10 @@
 // Normal forms of atoms that are looked up.
-ghost use Rattle.std.specs.Prelude.{◌≡◌, ◌++◌};
+ghost use Rattle.std.specs.Prelude.{◌≡◌, ◌&&◌, ◌++◌};
 ghost use Rattle.std.specs.Hash as fed;
+ghost use Rattle.std.specs.Ordering.{int_eq};
+ghost use Rattle.std.specs.Cmp.Lexicographic.{pointwise};
 ghost use Rattle.std.specs.Cmp.Rules.{comparing, hashing};
 ghost use Rattle.std.proofs.Common.{rules};
-ghost use Rattle.pt_eval.specs.Forms.{form_eq};
 
 use pt_atoms::{Normal, NormalKind};
 use pt_handles::Handle;
@@ -17,14 +18,14 @@ pub struct Form {
 }
 
 impl PartialEq for Form {
-    ghost eq = { λ a b. form_eq a b };
+    ghost eq = { λ a b. (⟦<NormalKind as PartialEq>⟧.eq a.normal.kind b.normal.kind && pointwise int_eq a.normal.coefficients b.normal.coefficients) && int_eq a.normal.constant b.normal.constant };
 
     ghost laws = { Prim.search (comparing, rules) };
 
     fn eq(&self, other: &Form) -> bool {
-        self.normal.constant == other.normal.constant
-            && self.normal.kind == other.normal.kind
+        self.normal.kind == other.normal.kind
             && self.normal.coefficients.as_slice() == other.normal.coefficients.as_slice()
+            && self.normal.constant == other.normal.constant
     }
 }
 

@@ -4,8 +4,10 @@ ghost use Rattle.pt_formula.specs.declared.node.Node.{Node as NodeValue};
 ghost use Rattle.pt_formula.specs.declared.node.Position.{Position as PositionValue};
 ghost use Rattle.pt_formula.specs.Costs.{IsRefused};
 ghost use Rattle.pt_eval.specs.Laws.{RefusalsHaveACause, SolutionsAreOverTheirVariables, TracksAreMaps, TracksWidenSolutions, HandlesHaveFewResiduals};
+ghost use Rattle.pt_eval.specs.Memos.{GoodMemosStayGood};
 
 use pt_formula::laws::widening_puts_no_condition_on_added_variables;
+use pt_handles::longer_lists_know;
 
 /// An evaluation refuses one node at most, and none where the costs of all nodes that the roots reach are within the bound.
 pub fn refusals_are_exact()
@@ -22,4 +24,13 @@ pub fn handles_of_solutions_are_widened_by_tracks()
     ensures few { HandlesHaveFewResiduals }
 {
     widening_puts_no_condition_on_added_variables();
+}
+
+/// What workers keep that is right for lists is right for longer ones.
+pub fn good_memos_stay_good()
+    ensures { GoodMemosStayGood }
+{
+    longer_lists_know();
+    pt_product::good_answers_stay_good();
+    pt_project::good_answers_stay_good();
 }

@@ -5,6 +5,7 @@ ghost use Rattle.pt_eval.specs.Memos.{IsGood};
 ghost use Rattle.pt_eval.specs.Outcomes.{MayBegin, IsResult, outcome_in};
 
 use crate::gate::Gate;
+use crate::laws::good_memos_stay_good;
 use crate::memos::Operations;
 use crate::node::evaluate_node;
 use crate::outcome::{Outcome, Outcomes};
@@ -67,7 +68,6 @@ impl<'a, G: Gate> Work for Level<'a, G> {
 
     fn lasts(&self) {
         longer_lists_know();
-        pt_product::good_answers_stay_good();
-        pt_project::good_answers_stay_good();
+        good_memos_stay_good();
     }
 }

@@ -20,7 +20,9 @@ pub use evaluation::evaluate;
 pub use fault::EvalFault;
 pub use forms::{AtomMemo, Form};
 pub use gate::{Gate, Open};
-pub use laws::{handles_of_solutions_are_widened_by_tracks, refusals_are_exact};
+pub use laws::{
+    good_memos_stay_good, handles_of_solutions_are_widened_by_tracks, refusals_are_exact,
+};
 pub use memos::{Memos, Operations};
 pub use tracks::track_map;
 

@@ -1,7 +1,8 @@
 // The run of a script.
-ghost use Rattle.std.specs.Prelude.{◌≡◌, ◌≢◌, ◌<◌, ◌≤◌, ◌+◌, ◌*◌, ◌^◌, ◌⊎◌, map, length, string_bytes, IfSome};
+ghost use Rattle.std.specs.Prelude.{◌≡◌, ◌≢◌, ◌<◌, ◌≤◌, ◌+◌, ◌*◌, ◌^◌, ◌⊎◌, map, length, string_bytes, IfNone, IfSome};
 ghost use Rattle.pt_io.specs.Streams.{Rose};
 ghost use Rattle.pt_sets.specs.Lists.{Extends, list_of};
+ghost use Rattle.pt_eval.specs.Memos.{AreGood};
 ghost use Rattle.pt_read.specs.Fits.{FitsKind};
 ghost use Rattle.pt_script.specs.Asks.{CommandAsks, KnowsAsked, LacksAsked};
 ghost use Rattle.pt_script.specs.Texts.{refusal_line, fault_line, too_long};
@@ -13,7 +14,7 @@ ghost use Rattle.pt_main.specs.Parts.{EndsWithLine, EndsWithReply, CommandTold, 
 
 use crate::drilling::drill;
 use crate::status::Status;
-use pt_eval::Gate;
+use pt_eval::{Gate, Memos};
 use pt_handles::longer_lists_know;
 use pt_io::{ReadFault, Sink, Source, read_all, write_all};
 use pt_options::words::{options, options_are_one};
@@ -28,13 +29,16 @@ use std::thread::Threads;
 /// The most bytes that a script may have.
 const LIMIT: usize = 4_194_304;
 
+/// How many operations and atoms of each kind each worker keeps.
+const CAPACITY: usize = 4096;
+
 /// Answers a script, in order, with the options that the words give. In mode solve it is the text of the source. Each reply is
 /// written before the next command is read; the run ends at the end of the text, at `exit`, or at the first refusal, whose
 /// error line is the last line. In mode drill it is the script of the seed and the size; the source is not read, and what is
 /// written is the line that sums up the script's output, or its error line.
 ///
-/// All work is done on the caller's thread, for every number of workers. Besides the work of the commands the time is linear
-/// in the bytes.
+/// Each worker keeps its last operations and atoms from one command to the next. Besides the work of the commands the time is
+/// linear in the bytes.
 ///
 /// Where the words give options, neither stream fails and no list of the pass comes to the store's limit, the answer is `Done`
 /// or `Refused`, or want of memory.
@@ -148,6 +152,9 @@ where
     let Ok(mut session) = Session::new(alloc) else {
         return Status::NoMemory;
     };
+    let Ok(mut memos) = Memos::new(alloc, given.workers, CAPACITY) else {
+        return Status::NoMemory;
+    };
     let mut reader = Reader::new(text);
     longer_lists_know();
     texts_give_out_few_numbers();
@@ -166,6 +173,7 @@ where
                     gate,
                     store,
                     pass,
+                    &mut memos,
                 );
                 match told {
                     Some(status) => return status,
@@ -188,6 +196,7 @@ fn answer_command<K: Sink, G: Gate, I: Sharing, R: Threads + Sync>(
     gate: &G,
     store: &I,
     pass: &mut I::Pass,
+    memos: &mut Memos,
 ) -> Option<Status>
 where
     I::Pass: Send,
@@ -196,6 +205,8 @@ where
     requires depth { session.old.scope.depth < 2 ^ 127 }
     requires range { AreInRange given }
     requires owned { I.owns store.now pass.old }
+    requires good { AreGood I.Pass.home (I.Pass.lists pass.old) memos.old }
+    requires enough { given.workers ≤ length memos.old }
     ensures told { CommandTold session.old command given.states session.new (K.written sink.old) (K.written sink.new) result }
     ensures asked { IfAnswered result (KnowsAsked I.Pass.home (I.Pass.lists pass.new) session.old.scope command.kind given.states) }
     ensures write_fault { result ≡ Some Status.WriteFault → Rose (K.faults sink.old) (K.faults sink.new) }
@@ -205,6 +216,8 @@ where
     ensures counted { K.faults sink.old ≤ K.faults sink.new }
     ensures extends { Extends (I.Pass.lists pass.old) (I.Pass.lists pass.new) }
     ensures kept { I.owns store.now pass.new }
+    ensures good { AreGood I.Pass.home (I.Pass.lists pass.new) memos.new }
+    ensures members { IfNone result (length memos.new ≡ length memos.old) }
 {
     match session.execute(
         rt,
@@ -215,6 +228,7 @@ where
         given.states,
         given.workers,
         gate,
+        memos,
     ) {
         Ok(reply) => write_reply(sink, reply),
         Err(fault) => match end_of(fault) {

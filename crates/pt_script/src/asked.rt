@@ -1,17 +1,21 @@
 // Handles of the sets that a command asks for.
-ghost use Rattle.std.specs.Prelude.{◌≡◌, ℕ, ◌<◌, ◌≤◌, ◌+◌, ◌*◌, [], ◌∷◌, IfOk, IfErr, OnOk, length};
+ghost use Rattle.std.specs.Prelude.{◌≡◌, ◌⊎◌, ℕ, Err, ◌<◌, ◌≤◌, ◌+◌, ◌*◌, [], ◌∷◌, IfOk, IfErr, OnOk, length};
 ghost use Rattle.std.specs.List.{AllByRecursion};
 ghost use Rattle.pt_sets.specs.Lists.{Extends};
 ghost use Rattle.pt_sets.specs.Known.{Lacks};
 ghost use Rattle.pt_formula.specs.Costs.{NoneRefused};
 ghost use Rattle.pt_eval.specs.Evaluating.{HaveSolutions, HasSolutions, HasFewResiduals, HaveFewResiduals, KnowsReached};
+ghost use Rattle.pt_eval.specs.Memos.{AreGood};
 ghost use Rattle.pt_read.specs.Fits.{IsPredicate};
 ghost use Rattle.pt_script.specs.Step.{set_of};
 ghost use Rattle.pt_script.specs.Asks.{AsksFor, KnowsAll};
 ghost use Rattle.pt_script.specs.Sets.{HasSetOf, RefusesAsked, FullOnlyWhere};
 
 use crate::fault::SessionFault;
-use pt_eval::{EvalFault, Gate, evaluate, handles_of_solutions_are_widened_by_tracks, track_map};
+use pt_eval::{
+    EvalFault, Gate, Memos, evaluate, good_memos_stay_good,
+    handles_of_solutions_are_widened_by_tracks, track_map,
+};
 use pt_formula::NodeId;
 use pt_handles::{Handle, longer_lists_know};
 use pt_product::widen;
@@ -31,6 +35,7 @@ pub(crate) fn evaluate_roots<I: Sharing, G: Gate, R: Threads + Sync>(
     bound: u32,
     workers: u32,
     gate: &G,
+    memos: &mut Memos,
 ) -> Result<Vec<Handle>, SessionFault>
 where
     I::Pass: Send,
@@ -40,8 +45,12 @@ where
     requires few { bound ≤ 65536 }
     requires some_worker { 0 < workers }
     requires few_workers { workers ≤ 16 }
+    requires good { AreGood I.Pass.home (I.Pass.lists pass.old) memos.old }
+    requires enough { workers ≤ length memos.old }
     ensures kept { I.owns store.now pass.new }
     ensures extends { Extends (I.Pass.lists pass.old) (I.Pass.lists pass.new) }
+    ensures good { AreGood I.Pass.home (I.Pass.lists pass.new) memos.new }
+    ensures members { (length memos.new ≡ length memos.old) ⊎ (result ≡ Err SessionFault.NoMemory) }
     ensures ok { IfOk result (λ handles. HaveSolutions I.Pass.home (I.Pass.lists pass.new) scope.now.formula roots.now handles.items) }
     ensures reached { OnOk result (KnowsReached I.Pass.home (I.Pass.lists pass.new) scope.now.formula roots.now) }
     ensures within { OnOk result (NoneRefused scope.now.formula roots.now bound) }
@@ -52,7 +61,9 @@ where
 {
     handles_of_solutions_are_widened_by_tracks();
     let formula = scope.formula();
-    match evaluate(rt, alloc, store, pass, formula, roots, bound, workers, gate) {
+    match evaluate(
+        rt, alloc, store, pass, formula, roots, bound, workers, gate, memos,
+    ) {
         Ok(handles) => Ok(handles),
         Err(EvalFault::States { node }) => Err(SessionFault::States {
             position: formula.position(node),
@@ -104,6 +115,7 @@ pub(crate) fn one_set<I: Sharing, G: Gate, R: Threads + Sync>(
     bound: u32,
     workers: u32,
     gate: &G,
+    memos: &mut Memos,
 ) -> Result<Handle, SessionFault>
 where
     I::Pass: Send,
@@ -113,8 +125,12 @@ where
     requires few { bound ≤ 65536 }
     requires some_worker { 0 < workers }
     requires few_workers { workers ≤ 16 }
+    requires good { AreGood I.Pass.home (I.Pass.lists pass.old) memos.old }
+    requires enough { workers ≤ length memos.old }
     ensures kept { I.owns store.now pass.new }
     ensures extends { Extends (I.Pass.lists pass.old) (I.Pass.lists pass.new) }
+    ensures good { AreGood I.Pass.home (I.Pass.lists pass.new) memos.new }
+    ensures members { (length memos.new ≡ length memos.old) ⊎ (result ≡ Err SessionFault.NoMemory) }
     ensures ok { IfOk result (HasSetOf I.Pass.home (I.Pass.lists pass.new) scope.now p.now) }
     ensures asked { OnOk result (KnowsAll I.Pass.home (I.Pass.lists pass.new) (AsksFor scope.now (p.now.body ∷ []) (p.now ∷ []) bound)) }
     ensures within { OnOk result (NoneRefused scope.now.formula (p.now.body ∷ []) bound) }
@@ -122,8 +138,11 @@ where
     ensures offers { I.Pass.offered pass.new ≤ I.Pass.offered pass.old + (length scope.now.formula + 1) * bound }
 {
     longer_lists_know();
+    good_memos_stay_good();
     let roots = [p.body];
-    let bodies = evaluate_roots(rt, alloc, store, pass, scope, &roots, bound, workers, gate)?;
+    let bodies = evaluate_roots(
+        rt, alloc, store, pass, scope, &roots, bound, workers, gate, memos,
+    )?;
     let handle = widen_body(rt, alloc, store, pass, scope, p, bodies[0])?;
     Ok(handle)
 }
@@ -140,6 +159,7 @@ pub(crate) fn two_sets<I: Sharing, G: Gate, R: Threads + Sync>(
     bound: u32,
     workers: u32,
     gate: &G,
+    memos: &mut Memos,
 ) -> Result<(Handle, Handle), SessionFault>
 where
     I::Pass: Send,
@@ -150,8 +170,12 @@ where
     requires few { bound ≤ 65536 }
     requires some_worker { 0 < workers }
     requires few_workers { workers ≤ 16 }
+    requires good { AreGood I.Pass.home (I.Pass.lists pass.old) memos.old }
+    requires enough { workers ≤ length memos.old }
     ensures kept { I.owns store.now pass.new }
     ensures extends { Extends (I.Pass.lists pass.old) (I.Pass.lists pass.new) }
+    ensures good { AreGood I.Pass.home (I.Pass.lists pass.new) memos.new }
+    ensures members { (length memos.new ≡ length memos.old) ⊎ (result ≡ Err SessionFault.NoMemory) }
     ensures first { IfOk result (λ sets. HasSetOf I.Pass.home (I.Pass.lists pass.new) scope.now p.now sets.0) }
     ensures second { IfOk result (λ sets. HasSetOf I.Pass.home (I.Pass.lists pass.new) scope.now q.now sets.1) }
     ensures asked { OnOk result (KnowsAll I.Pass.home (I.Pass.lists pass.new) (AsksFor scope.now (p.now.body ∷ q.now.body ∷ []) (p.now ∷ q.now ∷ []) bound)) }
@@ -160,8 +184,11 @@ where
     ensures offers { I.Pass.offered pass.new ≤ I.Pass.offered pass.old + (length scope.now.formula + 2) * bound }
 {
     longer_lists_know();
+    good_memos_stay_good();
     let roots = [p.body, q.body];
-    let bodies = evaluate_roots(rt, alloc, store, pass, scope, &roots, bound, workers, gate)?;
+    let bodies = evaluate_roots(
+        rt, alloc, store, pass, scope, &roots, bound, workers, gate, memos,
+    )?;
     let first = widen_body(rt, alloc, store, pass, scope, p, bodies[0])?;
     let second = widen_body(rt, alloc, store, pass, scope, q, bodies[1])?;
     Ok((first, second))

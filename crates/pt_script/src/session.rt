@@ -6,7 +6,7 @@ use crate::subjects::ConjunctionSet;
 use crate::telling::{tell_one, tell_two};
 use crate::texts::{write_line, write_model, write_pairs};
 use pt_digits::NoMemory;
-use pt_eval::Gate;
+use pt_eval::{Gate, Memos};
 use pt_formula::Position;
 use pt_handles::Handle;
 use pt_query::{WitnessFault, least_member, queries_tell_of_sets_alone};
@@ -34,8 +34,9 @@ impl Model for Session {
 }
 
 impl Session {
-    ghost use Rattle.std.specs.Prelude.{◌≡◌, ◌<◌, ◌≤◌, ◌^◌, ◌+◌, ◌*◌, ℕ, [], ◌∷◌, IfOk, IfErr, IfSome, OnOk, OnErr, length, true};
+    ghost use Rattle.std.specs.Prelude.{◌≡◌, ◌⊎◌, ◌<◌, ◌≤◌, ◌^◌, ◌+◌, ◌*◌, ℕ, [], ◌∷◌, Err, IfOk, IfErr, IfSome, OnOk, OnErr, length, true};
     ghost use Rattle.pt_sets.specs.Lists.{Extends};
+    ghost use Rattle.pt_eval.specs.Memos.{AreGood};
     ghost use Rattle.pt_read.specs.Reader.{Answers, OnlyAdds};
     ghost use Rattle.pt_read.specs.Fits.{FitsKind};
     ghost use Rattle.pt_terms.specs.Names.{constants_in};
@@ -93,6 +94,7 @@ impl Session {
         bound: u32,
         workers: u32,
         gate: &G,
+        memos: &mut Memos,
     ) -> Result<Reply, SessionFault>
     where
         I::Pass: Send,
@@ -103,8 +105,12 @@ impl Session {
         requires few { bound ≤ 65536 }
         requires some_worker { 0 < workers }
         requires few_workers { workers ≤ 16 }
+        requires good { AreGood I.Pass.home (I.Pass.lists pass.old) memos.old }
+        requires enough { workers ≤ length memos.old }
         ensures kept { I.owns store.now pass.new }
         ensures extends { Extends (I.Pass.lists pass.old) (I.Pass.lists pass.new) }
+        ensures good { AreGood I.Pass.home (I.Pass.lists pass.new) memos.new }
+        ensures members { (length memos.new ≡ length memos.old) ⊎ (result ≡ Err SessionFault.NoMemory) }
         ensures executes { Executes result self.old command bound self.new }
         ensures asked { OnOk result (KnowsAsked I.Pass.home (I.Pass.lists pass.new) self.old.scope command.kind bound) }
         ensures full { IfErr result (FullOnlyWhereAsked self.old.fault I.Pass.home (I.limit_of store.now) (I.Pass.lists pass.new) self.old.scope command.kind bound) }
@@ -113,7 +119,9 @@ impl Session {
         if let Some(fault) = self.fault {
             return Err(fault);
         }
-        match self.answer(rt, alloc, &command, store, pass, bound, workers, gate) {
+        match self.answer(
+            rt, alloc, &command, store, pass, bound, workers, gate, memos,
+        ) {
             Ok(bytes) => Ok(Reply::new(bytes, is_exit(&command.kind))),
             Err(fault) => {
                 self.fault = Some(fault);
@@ -133,6 +141,7 @@ impl Session {
         bound: u32,
         workers: u32,
         gate: &G,
+        memos: &mut Memos,
     ) -> Result<Vec<u8>, SessionFault>
     where
         I::Pass: Send,
@@ -143,8 +152,12 @@ impl Session {
         requires few { bound ≤ 65536 }
         requires some_worker { 0 < workers }
         requires few_workers { workers ≤ 16 }
+        requires good { AreGood I.Pass.home (I.Pass.lists pass.old) memos.old }
+        requires enough { workers ≤ length memos.old }
         ensures kept { I.owns store.now pass.new }
         ensures extends { Extends (I.Pass.lists pass.old) (I.Pass.lists pass.new) }
+        ensures good { AreGood I.Pass.home (I.Pass.lists pass.new) memos.new }
+        ensures members { (length memos.new ≡ length memos.old) ⊎ (result ≡ Err SessionFault.NoMemory) }
         ensures ok { IfOk result (λ reply. Step self.old command.now bound reply.items self.new) }
         ensures same { OnErr result (self.new ≡ self.old) }
         ensures asked { OnOk result (KnowsAsked I.Pass.home (I.Pass.lists pass.new) self.old.scope command.now.kind bound) }
@@ -153,17 +166,19 @@ impl Session {
     {
         match &command.kind {
             CommandKind::CheckSat => {
-                self.check_sat(rt, alloc, command, store, pass, bound, workers, gate)
+                self.check_sat(rt, alloc, command, store, pass, bound, workers, gate, memos)
             }
             CommandKind::SetEqual(p, q) | CommandKind::SetSubset(p, q) => self.query_two(
-                rt, alloc, command, p, q, store, pass, bound, workers, gate,
+                rt, alloc, command, p, q, store, pass, bound, workers, gate, memos,
             ),
             CommandKind::SetEmpty(p)
             | CommandKind::SetFinite(p)
             | CommandKind::SetStates(p)
             | CommandKind::SetMember(p, _)
             | CommandKind::SetList(p, _) => {
-                self.query_one(rt, alloc, command, p, store, pass, bound, workers, gate)
+                self.query_one(
+                    rt, alloc, command, p, store, pass, bound, workers, gate, memos,
+                )
             }
             CommandKind::GetValue { constants } => {
                 self.say_values(alloc, command.position, constants.as_slice())
@@ -194,6 +209,7 @@ impl Session {
         bound: u32,
         workers: u32,
         gate: &G,
+        memos: &mut Memos,
     ) -> Result<Vec<u8>, SessionFault>
     where
         I::Pass: Send,
@@ -203,8 +219,12 @@ impl Session {
         requires few { bound ≤ 65536 }
         requires some_worker { 0 < workers }
         requires few_workers { workers ≤ 16 }
+        requires good { AreGood I.Pass.home (I.Pass.lists pass.old) memos.old }
+        requires enough { workers ≤ length memos.old }
         ensures kept { I.owns store.now pass.new }
         ensures extends { Extends (I.Pass.lists pass.old) (I.Pass.lists pass.new) }
+        ensures good { AreGood I.Pass.home (I.Pass.lists pass.new) memos.new }
+        ensures members { (length memos.new ≡ length memos.old) ⊎ (result ≡ Err SessionFault.NoMemory) }
         ensures ok { IfOk result (λ reply. Step self.old command.now bound reply.items self.new) }
         ensures same { OnErr result (self.new ≡ self.old) }
         ensures asked { OnOk result (KnowsAsked I.Pass.home (I.Pass.lists pass.new) self.old.scope command.now.kind bound) }
@@ -223,6 +243,7 @@ impl Session {
             bound,
             workers,
             gate,
+            memos,
         )?;
         let found = least_solution(alloc, &*pass, handles[0])?;
         let reply = verdict(alloc, &found)?;
@@ -242,6 +263,7 @@ impl Session {
         bound: u32,
         workers: u32,
         gate: &G,
+        memos: &mut Memos,
     ) -> Result<Vec<u8>, SessionFault>
     where
         I::Pass: Send,
@@ -252,15 +274,21 @@ impl Session {
         requires few { bound ≤ 65536 }
         requires some_worker { 0 < workers }
         requires few_workers { workers ≤ 16 }
+        requires good { AreGood I.Pass.home (I.Pass.lists pass.old) memos.old }
+        requires enough { workers ≤ length memos.old }
         ensures kept { I.owns store.now pass.new }
         ensures extends { Extends (I.Pass.lists pass.old) (I.Pass.lists pass.new) }
+        ensures good { AreGood I.Pass.home (I.Pass.lists pass.new) memos.new }
+        ensures members { (length memos.new ≡ length memos.old) ⊎ (result ≡ Err SessionFault.NoMemory) }
         ensures ok { IfOk result (λ reply. Step self.now command.now bound reply.items self.now) }
         ensures asked { OnOk result (KnowsAsked I.Pass.home (I.Pass.lists pass.new) self.now.scope command.now.kind bound) }
         ensures err { IfErr result (RefusesCommand I.Pass.home (I.limit_of store.now) (I.Pass.lists pass.new) self.now command.now bound) }
         ensures offers { I.Pass.offered pass.new ≤ I.Pass.offered pass.old + (length self.now.scope.formula + 1) * bound }
     {
         let scope = &self.scope;
-        let a = one_set(rt, alloc, store, pass, scope, p, bound, workers, gate)?;
+        let a = one_set(
+            rt, alloc, store, pass, scope, p, bound, workers, gate, memos,
+        )?;
         let reply = tell_one(alloc, &*pass, scope, &command.kind, p, command.position, a)?;
         Ok(reply)
     }
@@ -278,6 +306,7 @@ impl Session {
         bound: u32,
         workers: u32,
         gate: &G,
+        memos: &mut Memos,
     ) -> Result<Vec<u8>, SessionFault>
     where
         I::Pass: Send,
@@ -288,15 +317,21 @@ impl Session {
         requires few { bound ≤ 65536 }
         requires some_worker { 0 < workers }
         requires few_workers { workers ≤ 16 }
+        requires good { AreGood I.Pass.home (I.Pass.lists pass.old) memos.old }
+        requires enough { workers ≤ length memos.old }
         ensures kept { I.owns store.now pass.new }
         ensures extends { Extends (I.Pass.lists pass.old) (I.Pass.lists pass.new) }
+        ensures good { AreGood I.Pass.home (I.Pass.lists pass.new) memos.new }
+        ensures members { (length memos.new ≡ length memos.old) ⊎ (result ≡ Err SessionFault.NoMemory) }
         ensures ok { IfOk result (λ reply. Step self.now command.now bound reply.items self.now) }
         ensures asked { OnOk result (KnowsAsked I.Pass.home (I.Pass.lists pass.new) self.now.scope command.now.kind bound) }
         ensures err { IfErr result (RefusesCommand I.Pass.home (I.limit_of store.now) (I.Pass.lists pass.new) self.now command.now bound) }
         ensures offers { I.Pass.offered pass.new ≤ I.Pass.offered pass.old + (length self.now.scope.formula + 2) * bound }
     {
         let scope = &self.scope;
-        let (a, b) = two_sets(rt, alloc, store, pass, scope, p, q, bound, workers, gate)?;
+        let (a, b) = two_sets(
+            rt, alloc, store, pass, scope, p, q, bound, workers, gate, memos,
+        )?;
         let reply = tell_two(
             alloc,
             &*pass,

@@ -1,6 +1,6 @@
 // A session after a fault, and what its pass knows.
 use crate::{Session, SessionFault};
-use pt_eval::Open;
+use pt_eval::{Memos, Open};
 use pt_formula::Position;
 use pt_read::Reader;
 use pt_store::{Codes, Mixed, SharedStore};
@@ -19,13 +19,16 @@ fn a_fault_is_answered_for_ever(rt: HostRuntime) -> Result<(), Fail> {
     let mut reader = Reader::new(text);
     let mut session = Session::new(alloc)?;
     let (store, mut pass) = SharedStore::new(alloc, 1, 1_000, Mixed)?;
+    let mut memos = Memos::new(alloc, 1, 4)?;
     for turn in 0..5 {
         assert!(rt; session.scope().given() <= 1 << 31);
         let Ok(Some(command)) = session.read_command(alloc, &mut reader) else {
             panic!(rt; "no command was read");
         };
         assert!(rt; session.scope().depth() < 1 << 127);
-        match session.execute(&rt, alloc, command, &store, &mut pass, 100, 1, &Open) {
+        match session.execute(
+            &rt, alloc, command, &store, &mut pass, 100, 1, &Open, &mut memos,
+        ) {
             Ok(reply) => {
                 assert_eq!(rt; turn, 0);
                 assert!(rt; reply.bytes().is_empty());
