@@ -12,8 +12,6 @@ use Rattle.pt_sets.specs.Lists.{Lists, Home}
 use Rattle.pt_handles.specs.declared.handle.Handle.{Handle}
 use Rattle.pt_handles.specs.Handles.{SetOfHandle}
 use Rattle.pt_handles.specs.declared.fault.TableFault.{TableFault}
-use Rattle.pt_handles.specs.declared.fault.TableFault.TheVariants.{States, NoMemory}
-use Rattle.pt_handles.specs.Refusing.{StatesOnlyAbove}
 use Rattle.pt_formula.specs.declared.node.Node.{Node}
 use Rattle.pt_formula.specs.declared.node.Position.{Position}
 use Rattle.pt_formula.specs.Formulas.{tree_of, variables_of}
@@ -35,11 +33,6 @@ module _ (one two : List ℕ → List ℕ → Type 0) (t : ℕ) where
     letters = within.letters;
     all = λ w letters. any-into into w within.lists letters within.letters (within.all w letters);
   }
-
-  -- and a finer one is refused with it
-  pub states-moved : ((v w : List ℕ) → AreLetters t v → AreLetters t w → two v w → one v w) → (B : ℕ) (fault : TableFault) → StatesOnlyAbove one t B fault → StatesOnlyAbove two t B fault
-  states-moved back B (States bound) h = (h.0, above-moved one two t back B h.1)
-  states-moved back B NoMemory h = tt
 
 -- equal sets have equal residuals at the same lists of letters
 pub residual-moved : (t : ℕ) (X Y : Vector → Type 0) → SameSet t X Y → (v w : List ℕ) → SameResidual t X v w → SameResidual t Y v w

@@ -1,14 +1,17 @@
 -- Automata of leaves: of True, False and atoms, by their normal forms.
 use Rattle.std.proofs.Common.{◌≡◌, inl, inr, ℕ, ◌≤◌, arith, true, false, Bool, List, [], length, map, refl, ap, sym, subst, ◌∙◌, Result, Ok, Err}
-use Rattle.std.specs.Prelude.{ℤ, pos, IfOk, IfErr}
+use Rattle.std.specs.Prelude.{ℤ, pos, IfOk, IfErr, OnOk}
 use Rattle.std.proofs.lemmas.Bool.{cases_lt}
 use Rattle.std.proofs.lemmas.List.{length-map}
 use Rattle.pt_sets.specs.Sets.{SameSet}
 use Rattle.pt_sets.specs.Automata.{Automaton, SetOfState, IsReduced}
-use Rattle.pt_sets.specs.Costs.{CostWithin, SameResidual}
-use Rattle.pt_sets.proofs.Counting.{SameSet-sym, SameSet-trans, residual-equivalence}
-use Rattle.pt_handles.specs.declared.fault.TableFault.{TableFault}
-use Rattle.pt_handles.specs.Refusing.{StatesOnlyAbove}
+use Rattle.pt_sets.specs.Costs.{CostAbove, CostWithin, SameResidual}
+use Rattle.pt_sets.specs.Lists.{Lists, Home}
+use Rattle.pt_sets.proofs.Counting.{SameSet-sym, SameSet-trans, above-moved, residual-equivalence}
+use Rattle.pt_handles.specs.declared.handle.Handle.{Handle}
+use Rattle.pt_handles.specs.declared.fault.OpFault.{OpFault}
+use Rattle.pt_handles.specs.declared.fault.OpFault.TheVariants as op_fault
+use Rattle.pt_handles.specs.Handles.{Has}
 use Rattle.pt_atoms.specs.declared.Normal.{Normal}
 use Rattle.pt_atoms.specs.declared.NormalKind.TheVariants.{Always}
 use Rattle.pt_atoms.specs.declared.Kind.{Kind}
@@ -16,9 +19,11 @@ use Rattle.pt_atoms.specs.Atoms.{NormalSet, AtomSet}
 use Rattle.pt_formula.specs.Forms.{Monomial}
 use Rattle.pt_atoms.specs.Tables.{IsAtomTable, ResidualsWithin, ResidualsAre}
 use Rattle.pt_formula.specs.Truth.{Tree, Atom, Solutions, free_variables}
-use Rattle.pt_formula.specs.Costs.{SameValue}
-use Rattle.pt_eval.specs.Parts.{IsTableOf, RefusesTree, RefusesForm, truth_tree}
-use Rattle.pt_eval.proofs.CostLaws.{within-moved, states-moved, residual-moved, residuals-moved, number-within}
+use Rattle.pt_formula.specs.Costs.{SameValue, TreeCostWithin}
+use Rattle.pt_eval.specs.Forms.{RefusesForm}
+use Rattle.pt_eval.specs.Parts.{IsHandleOf, RefusesHandle, truth_tree}
+use Rattle.pt_eval.proofs.CostLaws.{within-moved, residual-moved, residuals-moved, number-within}
+use Rattle.pt_eval.proofs.HandleLaws.{has-same, lacks-same}
 
 pub few-states : (n : Normal) (states B : ℕ) → ResidualsAre n states → ResidualsWithin n B → states ≤ B
 few-states n states B is within = number-within (SameResidual (length n.coefficients) (NormalSet n)) (length n.coefficients) states B (residual-equivalence (length n.coefficients) (NormalSet n)) is within
@@ -39,25 +44,28 @@ IsLeaf t = ((v w : List ℕ) → SameResidual (length (free_variables t)) (Solut
     × ((v w : List ℕ) → SameValue t v w → SameResidual (length (free_variables t)) (Solutions t) v w)
 
 module _ (t : Tree) (n : Normal) (leaf : IsLeaf t) (tracks : length n.coefficients ≡ length (free_variables t)) (same : SameSet (length (free_variables t)) (NormalSet n) (Solutions t)) (B : ℕ) where
-  pub leaf-table : (a : Automaton) → IsAtomTable n a → a.states ≤ B → ResidualsWithin n B → IsTableOf t B a
-  leaf-table a is few within =
-      let size : a.tracks ≡ length (free_variables t) = is.tracks ∙ tracks in
-      let start : SameSet (length (free_variables t)) (SetOfState a 0) (NormalSet n) = subst (λ (j : ℕ). SameSet j (SetOfState a 0) (NormalSet n)) size is.start in
-      let there : CostWithin (SameResidual (length (free_variables t)) (NormalSet n)) (length (free_variables t)) B = subst (λ (j : ℕ). CostWithin (SameResidual j (NormalSet n)) j B) tracks within in
-      let residuals = residuals-moved (length (free_variables t)) B (NormalSet n) (Solutions t) same there in
-      record {
-        tracks = size;
-        few = few;
-        set = SameSet-trans (length (free_variables t)) (SetOfState a 0) (NormalSet n) (Solutions t) start same;
-        within = within-moved (SameResidual (length (free_variables t)) (Solutions t)) (SameValue t) (length (free_variables t)) (λ v w hv hw h. leaf.0 v w h) B residuals;
-        residuals = residuals;
-      }
+  leaf-residuals : ResidualsWithin n B → CostWithin (SameResidual (length (free_variables t)) (Solutions t)) (length (free_variables t)) B
+  leaf-residuals within =
+      residuals-moved (length (free_variables t)) B (NormalSet n) (Solutions t) same (subst (λ (j : ℕ). CostWithin (SameResidual j (NormalSet n)) j B) tracks within)
 
-  pub leaf-refused : (fault : TableFault) → RefusesForm n B fault → RefusesTree t B fault
-  leaf-refused fault refused =
-      let there : StatesOnlyAbove (SameResidual (length (free_variables t)) (NormalSet n)) (length (free_variables t)) B fault = subst (λ (i : ℕ). StatesOnlyAbove (SameResidual i (NormalSet n)) i B fault) tracks refused in
-      states-moved (SameResidual (length (free_variables t)) (NormalSet n)) (SameValue t) (length (free_variables t))
-      (λ v w hv hw h. residual-moved (length (free_variables t)) (Solutions t) (NormalSet n) (SameSet-sym (length (free_variables t)) (NormalSet n) (Solutions t) same) v w (leaf.1 v w h)) B fault there
+  leaf-within : ResidualsWithin n B → TreeCostWithin t B
+  leaf-within within = within-moved (SameResidual (length (free_variables t)) (Solutions t)) (SameValue t) (length (free_variables t)) (λ v w hv hw h. leaf.0 v w h) B (leaf-residuals within)
+
+  pub leaf-handle : (home : Home) (lists : Lists) (h : Handle) → Has home lists (length n.coefficients) (NormalSet n) h → ResidualsWithin n B → IsHandleOf home lists t B h
+  leaf-handle home lists h has within = record {
+    solutions = has-same home lists (length n.coefficients) (length (free_variables t)) (NormalSet n) (Solutions t) h tracks same has;
+    within = leaf-within within;
+    residuals = leaf-residuals within;
+  }
+
+  pub leaf-refused : (home : Home) (limit : ℕ) (lists : Lists) (fault : OpFault) → RefusesForm home limit lists n B fault → RefusesHandle home limit lists t B fault
+  leaf-refused home limit lists (op_fault.States b) (is, above) =
+      let there : CostAbove (SameResidual (length (free_variables t)) (NormalSet n)) (length (free_variables t)) B = subst (λ (i : ℕ). CostAbove (SameResidual i (NormalSet n)) i B) tracks above in
+      (is, above-moved (SameResidual (length (free_variables t)) (NormalSet n)) (SameValue t) (length (free_variables t))
+          (λ v w hv hw h. residual-moved (length (free_variables t)) (Solutions t) (NormalSet n) (SameSet-sym (length (free_variables t)) (NormalSet n) (Solutions t) same) v w (leaf.1 v w h)) B there)
+  leaf-refused home limit lists (op_fault.Full shard count) (full, lacks, within) =
+      (full, lacks-same home limit lists (length n.coefficients) (length (free_variables t)) (NormalSet n) (Solutions t) tracks same lacks, leaf-within within)
+  leaf-refused home limit lists op_fault.NoMemory refused = tt
 
 abbrev pub truth_form : Bool → Normal
 truth_form b = record { kind = Always b; coefficients = []; constant = pos 0 }
@@ -89,13 +97,8 @@ atom-same kind terms constant cs n is tracks form law =
     (SameSet-sym (length terms) (Solutions (Atom kind terms constant)) (AtomSet (record { kind = kind; coefficients = map (λ t. t.1) terms; constant = constant })) law) in
     (tracks ∙ count ∙ variables, subst (λ (j : ℕ). SameSet j (NormalSet n) (Solutions (Atom kind terms constant))) variables both)
 
--- the answers of a call that makes the automaton of a form
-pub leaf-ok : (t : Tree) (n : Normal) (leaf : IsLeaf t) (tracks : length n.coefficients ≡ length (free_variables t)) (same : SameSet (length (free_variables t)) (NormalSet n) (Solutions t)) (B : ℕ) (r : Result Automaton TableFault) →
-    IfOk r (λ a. IsAtomTable n a) → IfOk r (λ a. a.states ≤ B) → IfOk r (λ a. ResidualsWithin n B) → IfOk r (λ a. IsTableOf t B a)
-leaf-ok t n leaf tracks same B (Ok a) table few within = leaf-table t n leaf tracks same B a table few within
-leaf-ok t n leaf tracks same B (Err fault) table few within = tt
-
-pub leaf-err : (t : Tree) (n : Normal) (leaf : IsLeaf t) (tracks : length n.coefficients ≡ length (free_variables t)) (same : SameSet (length (free_variables t)) (NormalSet n) (Solutions t)) (B : ℕ) (r : Result Automaton TableFault) →
-    IfErr r (RefusesForm n B) → IfErr r (RefusesTree t B)
-leaf-err t n leaf tracks same B (Ok a) refused = tt
-leaf-err t n leaf tracks same B (Err fault) refused = leaf-refused t n leaf tracks same B fault refused
+-- the answers of a call that asks for the set of a form
+pub leaf-answers : (t : Tree) (n : Normal) (leaf : IsLeaf t) (tracks : length n.coefficients ≡ length (free_variables t)) (same : SameSet (length (free_variables t)) (NormalSet n) (Solutions t)) (B : ℕ) (home : Home) (limit : ℕ) (lists : Lists) (r : Result Handle OpFault) →
+    IfOk r (Has home lists (length n.coefficients) (NormalSet n)) → OnOk r (ResidualsWithin n B) → IfErr r (RefusesForm home limit lists n B) → IfOk r (IsHandleOf home lists t B) × IfErr r (RefusesHandle home limit lists t B)
+leaf-answers t n leaf tracks same B home limit lists (Ok h) has within refused = (leaf-handle t n leaf tracks same B home lists h has within, tt)
+leaf-answers t n leaf tracks same B home limit lists (Err fault) has within refused = (tt, leaf-refused t n leaf tracks same B home limit lists fault refused)

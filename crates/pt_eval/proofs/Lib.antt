@@ -2,6 +2,7 @@ pub mod TrackLaws
 pub mod DigitLaws
 pub mod CostLaws
 pub mod HandleLaws
+pub mod FormLaws
 pub mod LeafLaws
 pub mod BinaryLaws
 pub mod QuantifierLaws

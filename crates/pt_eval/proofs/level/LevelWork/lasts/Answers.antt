@@ -1,3 +1,6 @@
+use Rattle.std.proofs.Common.{[], ◌∷◌}
+use Rattle.std.proofs.lemmas.List.Elements.{All-head, All-cons, All-nil}
+use Rattle.pt_eval.specs.Memos.{IsGood}
 use Rattle.pt_eval.specs.Outcomes.{outcome_in}
 use Rattle.pt_eval.proofs.ToldLaws.{begins-longer, result-longer, lacks-longer}
 use Rattle.pt_eval.proofs.level.LevelWork.lasts.Goals as goal
@@ -14,7 +17,4 @@ pub returns-clause-lacks : goal.returns-clause-lacks
 returns-clause-lacks g c home limit old new number longer (cheap, lacks) = (cheap, lacks-longer home limit old new longer c.args.self.now.formula.now number lacks)
 
 pub returns-clause-good : goal.returns-clause-good
-returns-clause-good g c home old new kept longer is = record {
-  combined = c.good_answers_stay_good.ensures home old new kept.combined.entries longer is.combined;
-  projected = c.good_answers_stay_good-2.ensures home old new kept.projected.entries longer is.projected;
-}
+returns-clause-good g c home old new kept longer is = All-head (IsGood home new) kept [] (c.good_memos_stay_good.ensures home old new (kept ∷ []) longer (All-cons (IsGood home old) kept [] is (All-nil (IsGood home old))))
