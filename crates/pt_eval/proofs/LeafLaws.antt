@@ -60,9 +60,11 @@ module _ (t : Tree) (n : Normal) (leaf : IsLeaf t) (tracks : length n.coefficien
 
   pub leaf-refused : (home : Home) (limit : ℕ) (lists : Lists) (fault : OpFault) → RefusesForm home limit lists n B fault → RefusesHandle home limit lists t B fault
   leaf-refused home limit lists (op_fault.States b) (is, above) =
-      let there : CostAbove (SameResidual (length (free_variables t)) (NormalSet n)) (length (free_variables t)) B = subst (λ (i : ℕ). CostAbove (SameResidual i (NormalSet n)) i B) tracks above in
-      (is, above-moved (SameResidual (length (free_variables t)) (NormalSet n)) (SameValue t) (length (free_variables t))
-          (λ v w hv hw h. residual-moved (length (free_variables t)) (Solutions t) (NormalSet n) (SameSet-sym (length (free_variables t)) (NormalSet n) (Solutions t) same) v w (leaf.1 v w h)) B there)
+      let there : CostAbove (SameResidual (length (free_variables t)) (NormalSet n)) (length (free_variables t)) B = subst (λ (i : ℕ). CostAbove (SameResidual i (NormalSet n)) i B) tracks above in (
+        is,
+        above-moved (SameResidual (length (free_variables t)) (NormalSet n)) (SameValue t) (length (free_variables t))
+            (λ v w hv hw h. residual-moved (length (free_variables t)) (Solutions t) (NormalSet n) (SameSet-sym (length (free_variables t)) (NormalSet n) (Solutions t) same) v w (leaf.1 v w h)) B there,
+      )
   leaf-refused home limit lists (op_fault.Full shard count) (full, lacks, within) =
       (full, lacks-same home limit lists (length n.coefficients) (length (free_variables t)) (NormalSet n) (Solutions t) tracks same lacks, leaf-within within)
   leaf-refused home limit lists op_fault.NoMemory refused = tt

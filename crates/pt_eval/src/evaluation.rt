@@ -98,6 +98,7 @@ where
         workers,
         gate,
         &mut memos.workers,
+        nodes.len(),
         &rows,
     ) {
         Ok(outcomes) => outcomes,
@@ -110,7 +111,7 @@ where
     Ok(handles)
 }
 
-/// The outcome of each node in the lists, evaluated list by list.
+/// The outcome of each node in the lists, about so many, evaluated list by list.
 fn evaluate_rows<I: Sharing, G: Gate, R: Threads + Sync>(
     rt: &R,
     alloc: Global,
@@ -121,6 +122,7 @@ fn evaluate_rows<I: Sharing, G: Gate, R: Threads + Sync>(
     workers: u32,
     gate: &G,
     last: &mut Vec<Operations>,
+    count: usize,
     rows: &[Vec<NodeId>],
 ) -> Result<Outcomes, StoreFault>
 where
@@ -142,7 +144,9 @@ where
     ensures offers { I.Pass.offered pass.new ≤ I.Pass.offered pass.old + length formula.now * bound }
 {
     longer_lists_know();
-    let mut outcomes = HashMap::new(alloc);
+    let Ok(mut outcomes) = HashMap::with_capacity(alloc, count) else {
+        return Err(StoreFault::NoMemory);
+    };
     for row in rows {
         let level = Level {
             formula,

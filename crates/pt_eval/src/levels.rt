@@ -99,7 +99,7 @@ pub(crate) fn level_rows(
     ensures { IfOk result (λ rows. IsPlan formula.now nodes.now rows.items) }
 {
     formula.is_formula();
-    let mut levels = HashMap::new(alloc);
+    let mut levels = HashMap::with_capacity(alloc, nodes.len())?;
     let mut rows = Vec::new(alloc);
     for node in nodes {
         let own = level(formula, *node, &levels);

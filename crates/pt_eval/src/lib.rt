@@ -27,4 +27,6 @@ pub use memos::{Memos, Operations};
 pub use tracks::track_map;
 
 #[cfg(test)]
+mod memo_tests;
+#[cfg(test)]
 mod tests;
