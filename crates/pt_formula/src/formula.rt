@@ -41,7 +41,7 @@ impl Model for Formula {
 /// with `Tracks` exactly where the node would have more than `MAX_TRACKS` free variables, and with `Nodes` exactly where that is not so, a
 /// node is needed and `MAX_NODES` are there. All readers take constant time.
 impl Formula {
-    ghost use Rattle.std.specs.Prelude.{◌≡◌, ◌<◌, ℕ, List, length, IfOk, IsTrue};
+    ghost use Rattle.std.specs.Prelude.{◌≡◌, ◌<◌, ◌≤◌, ℕ, List, length, take, IfOk, IsTrue};
     ghost use Rattle.pt_atoms.specs.Atoms.{IsModulus};
     ghost use Rattle.pt_formula.specs.declared.node.Node.TheVariants.{Atom, Not};
     ghost use Rattle.pt_formula.specs.Forms.{AreTerms, IsIncreasing};
@@ -100,6 +100,15 @@ impl Formula {
         ensures { result ≡ position_at self.now id }
     {
         self.entries[id as usize].position
+    }
+
+    /// Takes later nodes away, so that this many stay.
+    pub fn truncate(&mut self, count: u32)
+        requires some { 0 < count }
+        requires count { count ≤ length self.old }
+        ensures { self.new ≡ take count self.old }
+    {
+        self.entries.truncate(count as usize);
     }
 
     /// A node True or False.

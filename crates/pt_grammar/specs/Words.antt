@@ -1,8 +1,8 @@
 -- Words of the standard: names that cannot be declared, and what the first item of a term calls for.
 use Rattle.pt_grammar.specs.declared.words.Head.{Head}
 use Rattle.pt_grammar.specs.declared.words.Head.TheVariants.{Apply, Let, Exists, Forall, Annotated, LeftOut, Named}
-use Rattle.pt_grammar.specs.declared.words.Operator.TheVariants.{Not, And, Or, Xor, Implies, Distinct, Ite, Plus, Minus, Times, Compare}
-use Rattle.pt_grammar.specs.declared.words.Relation.TheVariants.{Equal, AtMost, Below, AtLeast, Above}
+use Rattle.pt_grammar.specs.declared.words.Operator.TheVariants.{Not, And, Or, Xor, Implies, Distinct, Ite, Plus, Minus, Times, Div, Mod, Abs, Compare}
+use Rattle.pt_fresh.specs.declared.Relation.TheVariants.{Equal, AtMost, Below, AtLeast, Above}
 use Rattle.std.specs.Prelude.{ℕ, Bool, ◌||◌, if◌then◌else◌, List, [], ◌∷◌, map, bytes_eq, codes}
 use Rattle.std.specs.List.{list_any}
 
@@ -32,10 +32,10 @@ head_among (h ∷ heads) name = if bytes_eq h.0 name then h.1 else head_among he
 abbrev pub heads : List (Name × Head)
 heads =
     (codes "not", Apply Not) ∷ (codes "and", Apply And) ∷ (codes "or", Apply Or) ∷ (codes "xor", Apply Xor) ∷ (codes "=>", Apply Implies) ∷ (codes "distinct", Apply Distinct)
-    ∷ (codes "ite", Apply Ite) ∷ (codes "+", Apply Plus) ∷ (codes "-", Apply Minus) ∷ (codes "*", Apply Times)
+    ∷ (codes "ite", Apply Ite) ∷ (codes "+", Apply Plus) ∷ (codes "-", Apply Minus) ∷ (codes "*", Apply Times) ∷ (codes "div", Apply Div) ∷ (codes "mod", Apply Mod) ∷ (codes "abs", Apply Abs)
     ∷ (codes "=", Apply (Compare Equal)) ∷ (codes "<=", Apply (Compare AtMost)) ∷ (codes "<", Apply (Compare Below)) ∷ (codes ">=", Apply (Compare AtLeast)) ∷ (codes ">", Apply (Compare Above))
     ∷ (codes "let", Let) ∷ (codes "exists", Exists) ∷ (codes "forall", Forall) ∷ (codes "!", Annotated)
-    ∷ (codes "div", LeftOut) ∷ (codes "mod", LeftOut) ∷ (codes "abs", LeftOut) ∷ (codes "as", LeftOut) ∷ (codes "match", LeftOut) ∷ (codes "par", LeftOut) ∷ (codes "_", LeftOut) ∷ []
+    ∷ (codes "as", LeftOut) ∷ (codes "match", LeftOut) ∷ (codes "par", LeftOut) ∷ (codes "_", LeftOut) ∷ []
 
 abbrev pub head_of : Name → Head
 head_of name = head_among heads name

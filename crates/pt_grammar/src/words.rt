@@ -2,15 +2,8 @@
 ghost use Rattle.std.specs.Prelude.{◌≡◌, bytes_eq, map};
 ghost use Rattle.pt_grammar.specs.Words.{head_of, is_reserved, is_among, head_among};
 
-/// A relation of terms of sort Int; the first also of sort Bool.
-#[derive(Clone, Copy, Debug, PartialEq, Eq)]
-pub enum Relation {
-    Equal,
-    AtMost,
-    Below,
-    AtLeast,
-    Above,
-}
+/// How two terms of sort Int compare; the first also for terms of sort Bool.
+pub use pt_fresh::Relation;
 
 /// An operator of the theories.
 #[derive(Clone, Copy, Debug, PartialEq, Eq)]
@@ -25,6 +18,9 @@ pub enum Operator {
     Plus,
     Minus,
     Times,
+    Div,
+    Mod,
+    Abs,
     Compare(Relation),
 }
 
@@ -112,6 +108,9 @@ const HEADS: [(&[u8], Head); 26] = [
     (b"+", Head::Apply(Operator::Plus)),
     (b"-", Head::Apply(Operator::Minus)),
     (b"*", Head::Apply(Operator::Times)),
+    (b"div", Head::Apply(Operator::Div)),
+    (b"mod", Head::Apply(Operator::Mod)),
+    (b"abs", Head::Apply(Operator::Abs)),
     (b"=", Head::Apply(Operator::Compare(Relation::Equal))),
     (b"<=", Head::Apply(Operator::Compare(Relation::AtMost))),
     (b"<", Head::Apply(Operator::Compare(Relation::Below))),
@@ -121,9 +120,6 @@ const HEADS: [(&[u8], Head); 26] = [
     (b"exists", Head::Exists),
     (b"forall", Head::Forall),
     (b"!", Head::Annotated),
-    (b"div", Head::LeftOut),
-    (b"mod", Head::LeftOut),
-    (b"abs", Head::LeftOut),
     (b"as", Head::LeftOut),
     (b"match", Head::LeftOut),
     (b"par", Head::LeftOut),

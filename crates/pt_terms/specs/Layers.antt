@@ -22,16 +22,13 @@ symbol_term env p name =
     else if bytes_eq name (codes "false") then as_truth (make node.False p)
     else plain_use p (look_up env name)
 
--- what a name is bound to, as a term of its own
-abbrev pub plain_bound : Position → Option Use → Elab Bound
-plain_bound p None = refuse Unknown p
-plain_bound p (Some (Constant_of v s)) = give (Variable v s)
-plain_bound p (Some (Defined [] ss m)) = give (Term m)
-plain_bound p (Some (Defined (v ∷ vs) ss m)) = refuse WrongSort p
-
-abbrev pub bound_term : Position → Bound → Elab Meaning
-bound_term p (Variable v s) = variable_term p v s
-bound_term p (Term m) = give m
+-- what a name is bound to or, without parameters, defined as
+abbrev pub plain_found : Position → Option Use → Elab Use
+plain_found p None = refuse Unknown p
+plain_found p (Some (Constant_of v s)) = give (Constant_of v s)
+plain_found p (Some (Standing m)) = give (Standing m)
+plain_found p (Some (Defined [] ss m)) = give (Defined [] [] m)
+plain_found p (Some (Defined (v ∷ vs) ss m)) = refuse WrongSort p
 
 -- a sort with the next variable number
 abbrev pub sorted_variable : Name → SExpr → Elab (Name × ℕ × Sort)

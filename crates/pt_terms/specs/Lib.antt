@@ -1,5 +1,6 @@
 pub mod Sorts
 pub mod Elaboration
+pub mod Sides
 pub mod Names
 pub mod Theory
 pub mod Terms

@@ -10,14 +10,17 @@ use Rattle.pt_terms.specs.declared.meaning.Sort.TheVariants as sort
 use Rattle.pt_terms.specs.declared.meaning.Bound.{Bound}
 use Rattle.pt_terms.specs.declared.meaning.Bound.TheVariants.{Variable, Term}
 use Rattle.pt_terms.specs.Sorts.{truth_atom}
+use Rattle.pt_terms.specs.Sides.{plain}
+use Rattle.pt_terms.specs.Theory.{used}
 use Rattle.pt_syntax.specs.declared.kinds.ReadKind.TheVariants.{Unknown, Sort as WrongSort}
 use Rattle.pt_grammar.specs.Words.{Name}
 use Rattle.pt_terms.specs.declared.meaning.Constant.{Constant}
 
--- what a name stands for: a variable of a sort, or a definition's parameters, their sorts, and its body
+-- what a name stands for: a variable of a sort, a definition's parameters, their sorts and its body, or what another term stands for
 pub data Use : Type 0 where
   Constant_of : ℕ → Sort → Use
   Defined : List ℕ → List Sort → Meaning → Use
+  Standing : Meaning → Use
 
 -- a live name, and the level that made it
 pub record Symbol : Type 0 where
@@ -36,6 +39,7 @@ is_live symbols name = list_any (λ (s : Symbol). bytes_eq s.name name) symbols
 abbrev pub constant_in : Symbol → Use → List Constant
 constant_in s (Constant_of v t) = record { name = s.name; variable = v; sort = t } ∷ []
 constant_in s (Defined parameters sorts meaning) = []
+constant_in s (Standing meaning) = []
 
 abbrev pub constants_in : List Symbol → List Constant
 constants_in [] = []
@@ -56,7 +60,7 @@ find_bound (b ∷ bound) name = if bytes_eq b.0 name then Some b.1 else find_bou
 -- what a name stands for
 abbrev pub use_of : Option Bound → Option Use → Option Use
 use_of (Some (Variable v s)) live = Some (Constant_of v s)
-use_of (Some (Term m)) live = Some (Defined [] [] m)
+use_of (Some (Term m)) live = Some (Standing m)
 use_of None live = live
 
 abbrev pub look_up : Env → Name → Option Use
@@ -64,14 +68,15 @@ look_up env name = use_of (find_bound env.bound name) (find_symbol env.live name
 
 -- a variable as a term: a form, or a node that is new
 abbrev pub variable_term : Position → ℕ → Sort → Elab Meaning
-variable_term p v sort.Int = give (Int (variable_form v))
+variable_term p v sort.Int = give (Int (plain (variable_form v)))
 variable_term p v sort.Bool = make (truth_atom v) p >>= λ i. give (Truth i)
 
 -- as a term of its own
 abbrev pub plain_use : Position → Option Use → Elab Meaning
 plain_use p None = refuse Unknown p
 plain_use p (Some (Constant_of v s)) = variable_term p v s
-plain_use p (Some (Defined [] ss m)) = give m
+plain_use p (Some (Standing m)) = give m
+plain_use p (Some (Defined [] ss m)) = used p m
 plain_use p (Some (Defined (v ∷ vs) ss m)) = refuse WrongSort p
 
 -- as the head of an application

@@ -4,7 +4,7 @@ use Rattle.std.specs.List.{AllByRecursion}
 use Rattle.pt_terms.specs.declared.symbols.Use as kept
 use Rattle.pt_terms.specs.declared.symbols.Use.TheVariants.{Constant, Definition}
 use Rattle.pt_terms.specs.declared.symbols.Symbols.TheInside.{Inside}
-use Rattle.pt_terms.specs.Names.{Symbol, Use, Constant_of, Defined}
+use Rattle.pt_terms.specs.Names.{Symbol, Use, Constant_of, Defined, Standing}
 
 abbrev pub shown_use : kept.Use → Use
 shown_use (Constant v s) = Constant_of v s
@@ -25,3 +25,4 @@ HasOrder s = AreOrdered (shown s)
 abbrev pub constant_count : Use → ℕ
 constant_count (Constant_of v s) = 1
 constant_count (Defined parameters sorts meaning) = 0
+constant_count (Standing meaning) = 0

@@ -21,6 +21,7 @@ use Rattle.pt_grammar.specs.declared.words.Head.{Head}
 use Rattle.pt_grammar.specs.declared.words.Head.TheVariants as word
 use Rattle.pt_terms.specs.Names.{Env, bind, look_up, plain_use, head_use}
 use Rattle.pt_grammar.specs.Exprs.{place_of, symbol_of, numeral_of, items_of, name_of, items_or_none}
+use Rattle.pt_terms.specs.Sides.{plain}
 use Rattle.pt_terms.specs.Theory.{Argument, apply, call, divides, truth_of, as_truth}
 use Rattle.pt_grammar.specs.Forms.{let_fault, quantifier_fault, annotation_fault}
 
@@ -104,7 +105,7 @@ abbrev pub numeral : Position → List ℕ → Elab ℕ
 numeral p digits = require (nat_lt (numeral_value digits) (2 ^ 63)) Coefficient p >>= λ _. give (numeral_value digits)
 
 abbrev pub leaf_term : Env → Position → Leaf → Elab Meaning
-leaf_term env p (Numeral digits) = numeral p digits >>= λ n. give (Int (constant_form (pos n)))
+leaf_term env p (Numeral digits) = numeral p digits >>= λ n. give (Int (plain (constant_form (pos n))))
 leaf_term env p (Symbol name) =
     if bytes_eq name (codes "true") then as_truth (make node.True p)
     else if bytes_eq name (codes "false") then as_truth (make node.False p)

@@ -1,24 +1,29 @@
 -- The theories: what each operator makes of its arguments, and applications of definitions.
-use Rattle.std.specs.Prelude.{ℕ, zero, suc, ◌+◌, nat_lt, Bool, true, false, not, ◌||◌, ◌==◌, if◌then◌else◌, List, [], ◌∷◌, ◌++◌, length, map, filter, ℤ, pos, negsuc, neg_ℤ, ◌-ℤ◌, int_le, Option, Some, None, Ok}
-use Rattle.std.specs.Int.{int_rem_euclid}
+use Rattle.std.specs.Prelude.{ℕ, zero, suc, ◌+◌, max, nat_lt, Bool, true, false, not, ◌||◌, ◌==◌, if◌then◌else◌, List, [], ◌∷◌, ◌++◌, length, map, filter, ℤ, pos, negsuc, ◌-ℤ◌, unsigned_abs, Option, Some, None, Ok}
+use Rattle.std.specs.Int.{int_div_euclid, int_rem_euclid}
 use Rattle.std.specs.List.{list_any, range_with_len}
 use Rattle.pt_formula.specs.declared.node.Node.{Node}
 use Rattle.pt_formula.specs.declared.node.Node.TheVariants as node
 use Rattle.pt_formula.specs.declared.node.Position.{Position}
 use Rattle.pt_formula.specs.declared.form.Form.{Form}
 use Rattle.pt_atoms.specs.declared.Kind.{Kind}
-use Rattle.pt_atoms.specs.declared.Kind.TheVariants.{Eq, Le, Mod}
+use Rattle.pt_atoms.specs.declared.Kind.TheVariants.{Mod}
 use Rattle.pt_formula.specs.Forms.{Monomial, is_zero}
-use Rattle.pt_formula.specs.Sums.{fits, form_sum, form_difference, form_scale}
-use Rattle.pt_terms.specs.Elaboration.{constant_form, variable_form, Elab, give, refuse, ◌>>=◌, require, make, make_exists, form, each}
-use Rattle.pt_formula.specs.Formulas.{node_at, children, truth_node}
+use Rattle.pt_formula.specs.Sums.{form_sum, form_difference, form_scale}
+use Rattle.pt_formula.specs.Formulas.{node_at, children}
+use Rattle.pt_fresh.specs.declared.Relation.{Relation}
+use Rattle.pt_fresh.specs.declared.Relation.TheVariants as comparison
+use Rattle.pt_fresh.specs.declared.term.Term.{Term}
+use Rattle.pt_fresh.specs.Pairs as pairs
+use Rattle.pt_fresh.specs.Builders as builders
+use Rattle.pt_terms.specs.Elaboration.{constant_form, variable_form, Elab, give, refuse, ◌>>=◌, require, make, make_exists, making, form, fresh, define, each}
 use Rattle.pt_terms.specs.declared.meaning.Meaning.{Meaning}
 use Rattle.pt_terms.specs.declared.meaning.Meaning.TheVariants.{Int, Bool as Truth}
 use Rattle.pt_terms.specs.declared.meaning.Sort.{Sort}
+use Rattle.pt_terms.specs.declared.meaning.Sort.TheVariants as sort
 use Rattle.pt_terms.specs.Sorts.{same_sort, sort_of}
+use Rattle.pt_terms.specs.Sides.{Side, plain, beside, united, united_sides, forms_of, replaced_side}
 use Rattle.pt_syntax.specs.declared.kinds.ReadKind.TheVariants.{Sort as WrongSort, Nonlinear, Coefficient, Unsupported}
-use Rattle.pt_grammar.specs.declared.words.Relation.{Relation}
-use Rattle.pt_grammar.specs.declared.words.Relation.TheVariants as comparison
 use Rattle.pt_grammar.specs.declared.words.Operator.{Operator}
 use Rattle.pt_grammar.specs.declared.words.Operator.TheVariants as symbol
 
@@ -29,23 +34,27 @@ Argument = Position × Meaning
 
 abbrev pub truth_of : Position → Meaning → Elab ℕ
 truth_of p (Truth i) = give i
-truth_of p (Int f) = refuse WrongSort p
+truth_of p (Int t) = refuse WrongSort p
 
-abbrev pub form_of : Position → Meaning → Elab Form
-form_of p (Int f) = give f
-form_of p (Truth i) = refuse WrongSort p
+abbrev pub term_of : Position → Meaning → Elab Term
+term_of p (Int t) = give t
+term_of p (Truth i) = refuse WrongSort p
 
 abbrev pub truth : Argument → Elab ℕ
 truth a = truth_of a.0 a.1
 
-abbrev pub integer : Argument → Elab Form
-integer a = form_of a.0 a.1
+abbrev pub integer : Argument → Elab Term
+integer a = term_of a.0 a.1
 
 abbrev pub as_truth : Elab ℕ → Elab Meaning
 as_truth m = m >>= λ i. give (Truth i)
 
-abbrev pub as_form : Elab Form → Elab Meaning
-as_form m = m >>= λ f. give (Int f)
+abbrev pub as_term : Elab Term → Elab Meaning
+as_term m = m >>= λ t. give (Int t)
+
+-- the form as a term, beside this side
+abbrev pub as_form : Side → Elab Form → Elab Meaning
+as_form side m = m >>= λ f. give (Int (beside side f))
 
 -- ---- connectives
 
@@ -71,35 +80,13 @@ choice p c a b = do
 
 -- ---- relations
 
--- whether 0 compares with the constant
-abbrev pub zero_compares : Kind → ℤ → Bool
-zero_compares Eq c = is_zero c
-zero_compares Le c = int_le (pos 0) c
-zero_compares (Mod m) c = is_zero (int_rem_euclid c (pos m))
+-- that a pair compares, with the variables of its sides set by their definitions
+abbrev pub compare : Position → Relation → Term × Term → Elab ℕ
+compare p r tu = making p (builders.compare_closed p r tu.0.form tu.1.form (united tu.0.side tu.1.side))
 
--- an atom, but True or False without variables
-abbrev pub atom : Position → Kind → List Monomial → ℤ → Elab ℕ
-atom p kind [] c = make (truth_node (zero_compares kind c)) p
-atom p kind (t ∷ ts) c = if fits c then make (node.Atom kind (t ∷ ts) c) p else refuse Coefficient p
-
-abbrev pub compared : Position → Relation → Form → Elab ℕ
-compared p comparison.Equal f = atom p Eq f.terms (neg_ℤ f.constant)
-compared p comparison.AtMost f = atom p Le f.terms (neg_ℤ f.constant)
-compared p comparison.AtLeast f = atom p Le f.terms (neg_ℤ f.constant)
-compared p comparison.Below f = atom p Le f.terms (neg_ℤ f.constant -ℤ pos 1)
-compared p comparison.Above f = atom p Le f.terms (neg_ℤ f.constant -ℤ pos 1)
-
-abbrev pub is_upward : Relation → Bool
-is_upward comparison.AtLeast = true
-is_upward comparison.Above = true
-is_upward _ = false
-
-abbrev pub compare : Position → Relation → Form × Form → Elab ℕ
-compare p r ab = form (if is_upward r then form_difference ab.1 ab.0 else form_difference ab.0 ab.1) p >>= compared p r
-
-abbrev pub different : Position → Form × Form → Elab ℕ
-different p ab = do
-  i ← compare p comparison.Equal ab
+abbrev pub different : Position → Term × Term → Elab ℕ
+different p tu = do
+  i ← compare p comparison.Equal tu
   make (node.Not i) p
 
 -- the pairs of neighbours, and all pairs of an element and a later one
@@ -127,11 +114,11 @@ conjunction f p (a ∷ rest) = f a >>= λ i. and_all f p i rest
 abbrev pub relation : Position → Relation → Position → Meaning → List Argument → Elab ℕ
 relation p comparison.Equal q (Truth i) rest = each truth rest >>= λ js. conjunction (λ (ab : ℕ × ℕ). make (node.Iff ab.0 ab.1) p) p (neighbours i js)
 relation p r q (Truth i) rest = refuse WrongSort q
-relation p r q (Int f) rest = each integer rest >>= λ gs. conjunction (compare p r) p (neighbours f gs)
+relation p r q (Int t) rest = each integer rest >>= λ us. conjunction (compare p r) p (neighbours t us)
 
 abbrev pub distinct : Position → Meaning → List Argument → Elab ℕ
 distinct p (Truth i) rest = each truth rest >>= λ js. conjunction (λ (ab : ℕ × ℕ). make (node.Xor ab.0 ab.1) p) p (later_pairs (i ∷ js))
-distinct p (Int f) rest = each integer rest >>= λ gs. conjunction (different p) p (later_pairs (f ∷ gs))
+distinct p (Int t) rest = each integer rest >>= λ us. conjunction (different p) p (later_pairs (t ∷ us))
 
 -- ---- arithmetic
 
@@ -156,9 +143,51 @@ abbrev pub products : Position → Form → List Form → Elab Form
 products p f [] = give f
 products p f (g ∷ gs) = product p f g >>= λ h. products p h gs
 
+-- the next variable as a term, which a node defines; its side is this one and its own definition
+abbrev pub defined : Position → Side → (ℕ → Elab ℕ) → Elab Term
+defined p side definition = do
+  v ← fresh sort.Int
+  d ← definition v
+  _ ← define v d
+  give (beside (side ++ (v, d) ∷ []) (variable_form v))
+
+-- the constant where there are no variables, else a variable that a node defines
+abbrev pub evaluated : Position → Term → ℤ → (ℕ → Elab ℕ) → Elab Term
+evaluated p t constant definition =
+    if has_variables t.form then defined p t.side definition
+    else form (constant_form constant) p >>= λ f. give (beside t.side f)
+
+-- Euclid's division by a number that is not 0
+abbrev pub quotient : Position → ℤ → Term → Elab Term
+quotient p n t = evaluated p t (int_div_euclid t.form.constant n) (λ v. making p (builders.divide v t.form n p))
+
+abbrev pub remainder : Position → ℤ → Term → Elab Term
+remainder p n t = evaluated p t (int_rem_euclid t.form.constant n) (λ v. making p (builders.remainder v t.form n p))
+
+abbrev pub magnitude : Position → Term → Elab Term
+magnitude p t = evaluated p t (pos (unsigned_abs t.form.constant)) (λ v. making p (builders.magnitude v t.form p))
+
+-- by a term, which has to be a number that is not 0
+abbrev pub divisor : Position → Term → Elab ℤ
+divisor p t =
+    if has_variables t.form then refuse Nonlinear p
+    else if is_zero t.form.constant then refuse Unsupported p
+    else give t.form.constant
+
+abbrev pub divided : Position → Term → Term → Elab Term
+divided p t u = divisor p u >>= λ n. quotient p n t
+
+abbrev pub quotients : Position → Term → List Term → Elab Term
+quotients p t [] = give t
+quotients p t (u ∷ us) = divided p t u >>= λ q. quotients p q us
+
+-- the first where a node holds, else the second
+abbrev pub chosen_term : Position → ℕ → Term → Term → Elab Term
+chosen_term p c t u = defined p (united t.side u.side) (λ v. making p (builders.choice v c t.form u.form p))
+
 abbrev pub chosen : Position → ℕ → Meaning → Argument → Elab Meaning
 chosen p c (Truth a) b = truth b >>= λ j. as_truth (choice p c a j)
-chosen p c (Int f) b = integer b >>= λ g. refuse Unsupported p
+chosen p c (Int t) b = integer b >>= λ u. as_term (chosen_term p c t u)
 
 -- an application of an operator, by its arguments; another number of them is refused
 abbrev pub apply : Position → Operator → List Argument → Elab Meaning
@@ -170,14 +199,17 @@ apply p symbol.Implies (a ∷ b ∷ rest) = truth a >>= λ i. each truth (b ∷ 
 apply p (symbol.Compare r) (a ∷ b ∷ rest) = as_truth (relation p r a.0 a.1 (b ∷ rest))
 apply p symbol.Distinct (a ∷ b ∷ rest) = as_truth (distinct p a.1 (b ∷ rest))
 apply p symbol.Ite (c ∷ a ∷ b ∷ []) = truth c >>= λ i. chosen p i a.1 b
-apply p symbol.Plus (a ∷ rest) = integer a >>= λ f. each integer rest >>= λ gs. as_form (sums p f gs)
-apply p symbol.Minus (a ∷ []) = integer a >>= λ f. as_form (form (form_scale (negsuc 0) f) p)
-apply p symbol.Minus (a ∷ b ∷ rest) = integer a >>= λ f. each integer (b ∷ rest) >>= λ gs. as_form (differences p f gs)
-apply p symbol.Times (a ∷ rest) = integer a >>= λ f. each integer rest >>= λ gs. as_form (products p f gs)
+apply p symbol.Plus (a ∷ rest) = integer a >>= λ t. each integer rest >>= λ us. as_form (united_sides (t ∷ us)) (sums p t.form (forms_of us))
+apply p symbol.Minus (a ∷ []) = integer a >>= λ t. as_form t.side (form (form_scale (negsuc 0) t.form) p)
+apply p symbol.Minus (a ∷ b ∷ rest) = integer a >>= λ t. each integer (b ∷ rest) >>= λ us. as_form (united_sides (t ∷ us)) (differences p t.form (forms_of us))
+apply p symbol.Times (a ∷ rest) = integer a >>= λ t. each integer rest >>= λ us. as_form (united_sides (t ∷ us)) (products p t.form (forms_of us))
+apply p symbol.Div (a ∷ b ∷ rest) = integer a >>= λ t. each integer (b ∷ rest) >>= λ us. as_term (quotients p t us)
+apply p symbol.Mod (a ∷ b ∷ []) = integer a >>= λ t. integer b >>= λ u. as_term (divisor p u >>= λ n. remainder p n t)
+apply p symbol.Abs (a ∷ []) = integer a >>= λ t. as_term (magnitude p t)
 apply p _ _ = refuse WrongSort p
 
 abbrev pub divides : Position → ℕ → List Argument → Elab Meaning
-divides p n (a ∷ []) = integer a >>= λ f. as_truth (atom p (Mod n) f.terms (int_rem_euclid (neg_ℤ f.constant) (pos n)))
+divides p n (a ∷ []) = integer a >>= λ t. as_truth (making p (builders.divisible_closed p n t.form t.side))
 divides p n _ = refuse WrongSort p
 
 -- ---- applications of definitions
@@ -199,7 +231,7 @@ replacement (r ∷ rs) v = if r.0 == v then Some r.1 else replacement rs v
 -- the form in the place of a variable of sort Int: the argument that replaces it, else itself
 abbrev pub form_for : ℕ → Option Meaning → Form
 form_for v None = variable_form v
-form_for v (Some (Int f)) = f
+form_for v (Some (Int t)) = t.form
 form_for v (Some (Truth i)) = constant_form (pos 0)
 
 abbrev pub replacing : List (ℕ × Meaning) → ℕ → Form
@@ -220,7 +252,7 @@ new_constant _ c = c
 -- the node in the place of an atom on a parameter of sort Bool: the argument
 abbrev pub node_for : Option Meaning → Option ℕ
 node_for None = None
-node_for (Some (Int f)) = None
+node_for (Some (Int t)) = None
 node_for (Some (Truth i)) = Some i
 
 abbrev pub truth_for : List (ℕ × Meaning) → List Monomial → Option ℕ
@@ -228,52 +260,101 @@ truth_for rs [] = None
 truth_for rs (t ∷ []) = node_for (replacement rs t.0)
 truth_for rs (t ∷ u ∷ ts) = None
 
+-- that an atom holds, with the variables of the side set by their definitions
+abbrev pub atom_closed : Position → Kind → List Monomial → ℤ → Side → Elab ℕ
+atom_closed p kind ts c side = making p (pairs.atom p kind ts c) >>= λ i. making p (builders.close i side p)
+
 -- the copy of an atom, unless a node stands in its place
 abbrev pub copied_atom : Position → List (ℕ × Meaning) → Kind → List Monomial → ℤ → Option ℕ → Elab ℕ
 copied_atom p rs kind ts c (Some i) = give i
-copied_atom p rs kind ts c None = substituted p rs (constant_form (pos 0)) ts >>= λ g. atom p kind g.terms (new_constant kind (c -ℤ g.constant))
+copied_atom p rs kind ts c None = substituted p rs (constant_form (pos 0)) ts >>= λ g. atom_closed p kind g.terms (new_constant kind (c -ℤ g.constant)) (replaced_side rs)
 
--- the new number of a copied node
+-- the new number of a node that is copied, or of a variable that stands for a term
 abbrev pub copy_of : List (ℕ × ℕ) → ℕ → ℕ
 copy_of [] i = i
 copy_of (c ∷ copies) i = if c.0 == i then c.1 else copy_of copies i
 
-abbrev pub copy_node : Position → List (ℕ × Meaning) → List (ℕ × ℕ) → Node → Elab ℕ
-copy_node p rs copies (node.Atom kind terms c) = copied_atom p rs kind terms c (truth_for rs terms)
-copy_node p rs copies (node.Not a) = make (node.Not (copy_of copies a)) p
-copy_node p rs copies (node.And a b) = make (node.And (copy_of copies a) (copy_of copies b)) p
-copy_node p rs copies (node.Or a b) = make (node.Or (copy_of copies a) (copy_of copies b)) p
-copy_node p rs copies (node.Iff a b) = make (node.Iff (copy_of copies a) (copy_of copies b)) p
-copy_node p rs copies (node.Xor a b) = make (node.Xor (copy_of copies a) (copy_of copies b)) p
-copy_node p rs copies (node.Exists v a) = make_exists v (copy_of copies a) p
-copy_node p rs copies node.True = make node.True p
-copy_node p rs copies node.False = make node.False p
+-- the copy of a node, with terms in the places of variables and new numbers for those that are bound
+abbrev pub copy_node : Position → List (ℕ × Meaning) → List (ℕ × ℕ) → List (ℕ × ℕ) → Node → Elab ℕ
+copy_node p rs numbers copies (node.Atom kind terms c) = copied_atom p rs kind terms c (truth_for rs terms)
+copy_node p rs numbers copies (node.Not a) = make (node.Not (copy_of copies a)) p
+copy_node p rs numbers copies (node.And a b) = make (node.And (copy_of copies a) (copy_of copies b)) p
+copy_node p rs numbers copies (node.Or a b) = make (node.Or (copy_of copies a) (copy_of copies b)) p
+copy_node p rs numbers copies (node.Iff a b) = make (node.Iff (copy_of copies a) (copy_of copies b)) p
+copy_node p rs numbers copies (node.Xor a b) = make (node.Xor (copy_of copies a) (copy_of copies b)) p
+copy_node p rs numbers copies (node.Exists v a) = make_exists (copy_of numbers v) (copy_of copies a) p
+copy_node p rs numbers copies node.True = make node.True p
+copy_node p rs numbers copies node.False = make node.False p
 
-abbrev pub copy_nodes : Position → List (ℕ × Meaning) → List (Node × Position) → List (ℕ × ℕ) → List ℕ → Elab (List (ℕ × ℕ))
-copy_nodes p rs f copies [] = give copies
-copy_nodes p rs f copies (i ∷ rest) = copy_node p rs copies (node_at f i) >>= λ j. copy_nodes p rs f ((i, j) ∷ copies) rest
+abbrev pub copy_nodes : Position → List (ℕ × Meaning) → List (ℕ × ℕ) → List (Node × Position) → List (ℕ × ℕ) → List ℕ → Elab (List (ℕ × ℕ))
+copy_nodes p rs numbers f copies [] = give copies
+copy_nodes p rs numbers f copies (i ∷ rest) = copy_node p rs numbers copies (node_at f i) >>= λ j. copy_nodes p rs numbers f ((i, j) ∷ copies) rest
 
 -- whether node d is a, or below it, at most n steps down
 abbrev pub reaches_within : ℕ → List (Node × Position) → ℕ → ℕ → Bool
 reaches_within zero f a d = a == d
 reaches_within (suc n) f a d = a == d || list_any (λ c. reaches_within n f c d) (children (node_at f a))
 
--- the nodes that a node reaches, in order
-abbrev pub reached : List (Node × Position) → ℕ → List ℕ
-reached f a = filter (reaches_within a f a) (range_with_len 0 (a + 1))
+-- one more than the greatest of some numbers
+abbrev pub above : List ℕ → ℕ
+above [] = 0
+above (a ∷ more) = max (a + 1) (above more)
+
+-- the nodes that some nodes reach, in order
+abbrev pub reached : List (Node × Position) → List ℕ → List ℕ
+reached f roots = filter (λ d. list_any (λ a. reaches_within a f a d) roots) (range_with_len 0 (above roots))
 
 abbrev pub nodes_now : Elab (List (Node × Position))
 nodes_now w = Ok (w.formula, w)
 
-abbrev pub copy : Position → List (ℕ × Meaning) → ℕ → Elab ℕ
-copy p rs body = do
-  f ← nodes_now
-  copies ← copy_nodes p rs f [] (reached f body)
-  give (copy_of copies body)
+-- the nodes that some nodes reach with their copies
+abbrev pub copy : Position → List (ℕ × Meaning) → List (ℕ × ℕ) → List ℕ → Elab (List (ℕ × ℕ))
+copy p rs numbers roots = nodes_now >>= λ f. copy_nodes p rs numbers f [] (reached f roots)
+
+-- a new number for each variable of a side
+abbrev pub renumbered : Side → Elab (List (ℕ × ℕ))
+renumbered [] = give []
+renumbered (x ∷ side) = fresh sort.Int >>= λ v. renumbered side >>= λ numbers. give ((x.0, v) ∷ numbers)
+
+-- the terms that the new numbers are
+abbrev pub renamed : List (ℕ × ℕ) → List (ℕ × Meaning)
+renamed numbers = map (λ n. (n.0, Int (plain (variable_form n.1)))) numbers
+
+-- a side with its new variables, and with copies of its nodes
+abbrev pub copied_side : List (ℕ × ℕ) → List (ℕ × ℕ) → Side → Side
+copied_side numbers copies side = map (λ x. (copy_of numbers x.0, copy_of copies x.1)) side
+
+abbrev pub define_all : Side → Elab (Unit {0})
+define_all [] = give tt
+define_all (x ∷ side) = define x.0 x.1 >>= λ _. define_all side
+
+-- a copy of a side, beside the numbers of its variables
+abbrev pub copy_side : Position → List (ℕ × Meaning) → Side → Elab (List (ℕ × ℕ) × Side)
+copy_side p rs side = do
+  numbers ← renumbered side
+  copies ← copy p (rs ++ renamed numbers) numbers (map (λ x. x.1) side)
+  _ ← define_all (copied_side numbers copies side)
+  give (numbers, copied_side numbers copies side)
+
+-- a term with others in the places of variables; its side is copied
+abbrev pub instance_term : Position → List (ℕ × Meaning) → Term → Elab Term
+instance_term p rs t = do
+  c ← copy_side p rs t.side
+  f ← substituted p (rs ++ renamed c.0) (constant_form t.form.constant) t.form.terms
+  give (beside (replaced_side rs ++ c.1) f)
 
 abbrev pub instance_of : Position → List (ℕ × Meaning) → Meaning → Elab Meaning
-instance_of p rs (Int f) = as_form (substituted p rs (constant_form f.constant) f.terms)
-instance_of p rs (Truth i) = as_truth (copy p rs i)
+instance_of p rs (Int t) = as_term (instance_term p rs t)
+instance_of p rs (Truth i) = copy p rs [] (i ∷ []) >>= λ copies. give (Truth (copy_of copies i))
+
+-- a definition without parameters as a term of its own: what it stands for, but a side is copied
+abbrev pub used_term : Position → Term → Side → Elab Term
+used_term p t [] = give t
+used_term p t (x ∷ side) = instance_term p [] t
+
+abbrev pub used : Position → Meaning → Elab Meaning
+used p (Int t) = as_term (used_term p t t.side)
+used p (Truth i) = give (Truth i)
 
 abbrev pub call : Position → List ℕ × List Sort × Meaning → List Argument → Elab Meaning
 call p definition xs = do
