@@ -80,12 +80,11 @@ pub fn divide(
 ) -> Result<NodeId, TermFault>
     requires a { IsForm a.now }
     requires n { n ≢ pos 0 }
-    requires other { names v a.now ≡ false }
     ensures makes { Makes result formula.old formula.new (divide v a.now n at) }
     ensures grows { Grows formula.old formula.new }
     ensures range { IfOk result (λ i. i < length formula.new) }
     ensures holds { IfOk result (λ i. (values : ℕ → ℤ) → Holds (tree_of formula.new i) values ↔ IsQuotient (form_value values a.now) n (values v)) }
-    ensures definite { IfOk result (λ i. IsDefinite (tree_of formula.new i) v) }
+    ensures definite { names v a.now ≡ false → IfOk result (λ i. IsDefinite (tree_of formula.new i) v) }
 {
     quotients_are_definite();
     formula.is_formula();
@@ -171,12 +170,11 @@ pub fn remainder(
 ) -> Result<NodeId, TermFault>
     requires a { IsForm a.now }
     requires n { n ≢ pos 0 }
-    requires other { names v a.now ≡ false }
     ensures makes { Makes result formula.old formula.new (remainder v a.now n at) }
     ensures grows { Grows formula.old formula.new }
     ensures range { IfOk result (λ i. i < length formula.new) }
     ensures holds { IfOk result (λ i. (values : ℕ → ℤ) → Holds (tree_of formula.new i) values ↔ IsRemainder (form_value values a.now) n (values v)) }
-    ensures definite { IfOk result (λ i. IsDefinite (tree_of formula.new i) v) }
+    ensures definite { names v a.now ≡ false → IfOk result (λ i. IsDefinite (tree_of formula.new i) v) }
 {
     remainders_are_definite();
     formula.is_formula();
@@ -233,12 +231,11 @@ pub fn magnitude(
     at: Position,
 ) -> Result<NodeId, TermFault>
     requires a { IsForm a.now }
-    requires other { names v a.now ≡ false }
     ensures makes { Makes result formula.old formula.new (magnitude v a.now at) }
     ensures grows { Grows formula.old formula.new }
     ensures range { IfOk result (λ i. i < length formula.new) }
     ensures holds { IfOk result (λ i. (values : ℕ → ℤ) → Holds (tree_of formula.new i) values ↔ (values v ≡ pos (unsigned_abs (form_value values a.now)))) }
-    ensures definite { IfOk result (λ i. IsDefinite (tree_of formula.new i) v) }
+    ensures definite { names v a.now ≡ false → IfOk result (λ i. IsDefinite (tree_of formula.new i) v) }
 {
     magnitudes_are_definite();
     formula.is_formula();
@@ -325,14 +322,11 @@ pub fn choice(
     requires c { c < length formula.old }
     requires a { IsForm a.now }
     requires b { IsForm b.now }
-    requires other_c { contains v (variables_of formula.old c) ≡ false }
-    requires other_a { names v a.now ≡ false }
-    requires other_b { names v b.now ≡ false }
     ensures makes { Makes result formula.old formula.new (choice v c a.now b.now at) }
     ensures grows { Grows formula.old formula.new }
     ensures range { IfOk result (λ i. i < length formula.new) }
     ensures holds { IfOk result (λ i. (values : ℕ → ℤ) → Holds (tree_of formula.new i) values ↔ ((Holds (tree_of formula.old c) values × (values v ≡ form_value values a.now)) ⊎ ((¬ Holds (tree_of formula.old c) values) × (values v ≡ form_value values b.now)))) }
-    ensures definite { IfOk result (λ i. IsDefinite (tree_of formula.new i) v) }
+    ensures definite { contains v (variables_of formula.old c) ≡ false → names v a.now ≡ false → names v b.now ≡ false → IfOk result (λ i. IsDefinite (tree_of formula.new i) v) }
 {
     choices_are_definite();
     formula.is_formula();

@@ -79,11 +79,11 @@ pub fn close(
     at: Position,
 ) -> Result<NodeId, TermFault>
     requires a { a < length formula.old }
-    requires side { IsSide formula.old side.now }
+    requires side { AllByRecursion (λ x. x.1 < length formula.old) side.now }
     ensures makes { Makes result formula.old formula.new (close a side.now at) }
     ensures grows { Grows formula.old formula.new }
     ensures range { IfOk result (λ i. i < length formula.new) }
-    ensures substitutes { IfOk result (λ i. (values settled : ℕ → ℤ) → Settles formula.old side.now values settled → Holds (tree_of formula.new i) values ↔ Holds (tree_of formula.old a) settled) }
+    ensures substitutes { IsSide formula.old side.now → IfOk result (λ i. (values settled : ℕ → ℤ) → Settles formula.old side.now values settled → Holds (tree_of formula.new i) values ↔ Holds (tree_of formula.old a) settled) }
 {
     closing_is_substitution();
     formula.is_formula();

@@ -19,7 +19,7 @@ mod tests;
 pub use builders::{choice, divide, magnitude, remainder};
 pub use closing::close;
 pub use fault::TermFault;
-pub use pairs::{compare, divisible};
+pub use pairs::{compare, divisible, relation_atom};
 pub use term::{Side, Term};
 
 /// How two numbers compare.

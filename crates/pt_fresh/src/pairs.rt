@@ -31,8 +31,9 @@ fn zero_compares_with(kind: Kind, constant: i128) -> bool
     }
 }
 
-/// The atom of the terms and the constant, or True or False without terms.
-fn relation_atom(
+/// The node that terms compare with a constant: an atom, or True or False without terms. A constant outside 64 bits is refused where there are
+/// terms. Time is linear in the terms.
+pub fn relation_atom(
     formula: &mut Formula,
     alloc: Global,
     kind: Kind,

@@ -15,15 +15,10 @@ use Rattle.pt_syntax.specs.declared.kinds.ReadKind.TheVariants.{Coefficient, Tra
 use Rattle.pt_syntax.specs.declared.kinds.ReadRefusal.{ReadRefusal}
 use Rattle.pt_terms.specs.declared.meaning.Sort.{Sort}
 
--- a variable with the node that defines it
-abbrev pub Definition : Type 0
-Definition = ℕ × ℕ
-
--- the formula so far, the sorts of the variables that have been given out, by their numbers, and those that stand for terms, with their definitions
+-- the formula so far, and the sorts of the variables that have been given out, by their numbers
 pub record Work : Type 0 where
   pub formula : List (Node × Position)
   pub given : List Sort
-  pub definitions : List Definition
 
 -- an answer and what is added, or the first refusal
 abbrev pub Elab : Type 0 → Type 0
@@ -54,34 +49,30 @@ fault_kind (fault.Tracks at) = Tracks
 fault_kind fault.Nodes = Nodes
 fault_kind fault.NoMemory = NoMemory
 
--- the work with another formula
-abbrev pub with_formula : List (Node × Position) → Work → Work
-with_formula f w = record { formula = f; given = w.given; definitions = w.definitions }
-
-abbrev pub built : Work → Position → Result (ℕ × List (Node × Position)) FormulaFault → Result (ℕ × Work) ReadRefusal
-built w p (Ok r) = Ok (r.0, with_formula r.1 w)
-built w p (Err f) = Err (record { kind = fault_kind f; position = p })
+abbrev pub built : List Sort → Position → Result (ℕ × List (Node × Position)) FormulaFault → Result (ℕ × Work) ReadRefusal
+built given p (Ok r) = Ok (r.0, record { formula = r.1; given = given })
+built given p (Err f) = Err (record { kind = fault_kind f; position = p })
 
 -- a new node
 abbrev pub make : Node → Position → Elab ℕ
-make n p w = built w p (made n p w.formula)
+make n p w = built w.given p (made n p w.formula)
 
 abbrev pub make_exists : ℕ → ℕ → Position → Elab ℕ
-make_exists v a p w = built w p (made_exists v a p w.formula)
+make_exists v a p w = built w.given p (made_exists v a p w.formula)
 
--- nodes made of terms, whose refusals stand at the term too
+-- a step that makes nodes of terms, whose refusals stand at the term too
 abbrev pub term_kind : TermFault → ReadKind
 term_kind term_fault.Coefficient = Coefficient
 term_kind (term_fault.Tracks at) = Tracks
 term_kind term_fault.Nodes = Nodes
 term_kind term_fault.NoMemory = NoMemory
 
-abbrev pub lifted : {A : Type 0} → Work → Position → Result (A × List (Node × Position)) TermFault → Result (A × Work) ReadRefusal
-lifted w p (Ok r) = Ok (r.0, with_formula r.1 w)
-lifted w p (Err f) = Err (record { kind = term_kind f; position = p })
+abbrev pub lifted : {A : Type 0} → List Sort → Position → Result (A × List (Node × Position)) TermFault → Result (A × Work) ReadRefusal
+lifted given p (Ok r) = Ok (r.0, record { formula = r.1; given = given })
+lifted given p (Err f) = Err (record { kind = term_kind f; position = p })
 
 abbrev pub making : {A : Type 0} → Position → Make A → Elab A
-making p m w = lifted w p (m w.formula)
+making p m w = lifted w.given p (m w.formula)
 
 -- a form, whose numbers have to fit 64 bits and whose terms have to be few
 abbrev pub form : Form → Position → Elab Form
@@ -89,11 +80,7 @@ form f p = if fits_form f then (if has_few_terms f then give f else refuse Track
 
 -- the next variable number, for a variable of this sort
 abbrev pub fresh : Sort → Elab ℕ
-fresh s w = Ok (length w.given, record { formula = w.formula; given = w.given ++ s ∷ []; definitions = w.definitions })
-
--- the variable stands for a term from now on, by this definition
-abbrev pub define : ℕ → ℕ → Elab (Unit {0})
-define v d w = Ok (tt, record { formula = w.formula; given = w.given; definitions = w.definitions ++ (v, d) ∷ [] })
+fresh s w = Ok (length w.given, record { formula = w.formula; given = w.given ++ s ∷ [] })
 
 -- one step for each, from left to right
 abbrev pub each : {A B : Type 0} → (A → Elab B) → List A → Elab (List B)

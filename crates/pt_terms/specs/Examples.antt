@@ -10,7 +10,7 @@ use Rattle.pt_terms.specs.Names.{Env}
 
 -- node 0 alone, and no variable given out
 abbrev pub beginning : Work
-beginning = record { formula = start; given = []; definitions = [] }
+beginning = record { formula = start; given = [] }
 
 abbrev pub nothing_named : Env
 nothing_named = record { bound = []; live = [] }

@@ -5,16 +5,20 @@ use Rattle.pt_formula.specs.declared.node.Position.{Position}
 use Rattle.pt_terms.specs.declared.meaning.Meaning.{Meaning}
 use Rattle.pt_terms.specs.declared.meaning.Sort.{Sort}
 use Rattle.pt_terms.specs.declared.meaning.Bound.{Bound}
-use Rattle.pt_terms.specs.declared.meaning.Bound.TheVariants.{Variable, Term}
+use Rattle.pt_terms.specs.declared.meaning.Bound.TheVariants.{Term}
+use Rattle.pt_terms.specs.declared.meaning.Plain.{Plain}
+use Rattle.pt_terms.specs.declared.meaning.Plain.TheVariants as kept
 use Rattle.pt_syntax.specs.declared.kinds.ReadKind.TheVariants.{Unknown, Sort as WrongSort}
 use Rattle.pt_syntax.specs.declared.sexpr.SExpr.{SExpr}
-use Rattle.pt_terms.specs.Elaboration.{Elab, give, refuse, ◌>>=◌, make, fresh}
+use Rattle.pt_terms.specs.Elaboration.{Work, Elab, give, refuse, ◌>>=◌, make, fresh}
 use Rattle.pt_terms.specs.Terms.{bindable, bindings, named_sort, variables, as_bound, quantified}
 use Rattle.pt_grammar.specs.Exprs.{items_or_none}
 use Rattle.pt_grammar.specs.Words.{Name}
-use Rattle.pt_terms.specs.Names.{Env, Use, Constant_of, Defined, bind, look_up, plain_use, variable_term}
+use Rattle.pt_terms.specs.Sorts.{HasSort}
+use Rattle.pt_terms.specs.Sound.{IsMeaningIn}
+use Rattle.pt_terms.specs.Names.{Env, Use, Constant_of, Defined, Standing, bind, look_up, plain_use, variable_term}
 use Rattle.pt_grammar.specs.Exprs.{items_of, place_of}
-use Rattle.pt_terms.specs.Theory.{as_truth, truth_of}
+use Rattle.pt_terms.specs.Theory.{as_truth, truth_of, used}
 
 abbrev pub symbol_term : Env → Position → Name → Elab Meaning
 symbol_term env p name =
@@ -22,13 +26,24 @@ symbol_term env p name =
     else if bytes_eq name (codes "false") then as_truth (make node.False p)
     else plain_use p (look_up env name)
 
--- what a name is bound to or, without parameters, defined as
-abbrev pub plain_found : Position → Option Use → Elab Use
+-- what a name stands for as a term of its own, and that term
+abbrev pub plain_found : Position → Option Use → Elab Plain
 plain_found p None = refuse Unknown p
-plain_found p (Some (Constant_of v s)) = give (Constant_of v s)
-plain_found p (Some (Standing m)) = give (Standing m)
-plain_found p (Some (Defined [] ss m)) = give (Defined [] [] m)
+plain_found p (Some (Constant_of v s)) = give (kept.Variable v s)
+plain_found p (Some (Standing m)) = give (kept.Standing m)
+plain_found p (Some (Defined [] ss m)) = give (kept.Definition m)
 plain_found p (Some (Defined (v ∷ vs) ss m)) = refuse WrongSort p
+
+abbrev pub found_term : Position → Plain → Elab Meaning
+found_term p (kept.Variable v s) = variable_term p v s
+found_term p (kept.Standing m) = give m
+found_term p (kept.Definition m) = used p m
+
+-- what it stands for is in the range of the work
+abbrev pub IsPlainIn : Work → Plain → Type 0
+IsPlainIn w (kept.Variable v s) = HasSort w.given v s
+IsPlainIn w (kept.Standing m) = IsMeaningIn w m
+IsPlainIn w (kept.Definition m) = IsMeaningIn w m
 
 -- a sort with the next variable number
 abbrev pub sorted_variable : Name → SExpr → Elab (Name × ℕ × Sort)

@@ -1,5 +1,5 @@
 -- What elaboration keeps, refusals included: variables are given out before they stand in a node, and meanings are in range.
-use Rattle.std.specs.Prelude.{ℕ, ◌<◌, ◌^◌, ◌≡◌, true, List, length}
+use Rattle.std.specs.Prelude.{ℕ, ◌<◌, ◌^◌, ◌≡◌, true, List, length, map}
 use Rattle.std.specs.List.{AllByRecursion}
 use Rattle.pt_formula.specs.declared.node.Node.{Node}
 use Rattle.pt_formula.specs.declared.node.Node.TheVariants as node
@@ -7,16 +7,20 @@ use Rattle.pt_formula.specs.declared.node.Position.{Position}
 use Rattle.pt_formula.specs.declared.form.Form.{Form}
 use Rattle.pt_formula.specs.Sums.{IsForm}
 use Rattle.pt_formula.specs.Forms as forms
+use Rattle.pt_formula.specs.Forms.{IsIncreasing}
+use Rattle.pt_fresh.specs.declared.term.Term.{Term}
 use Rattle.pt_formula.specs.Formulas.{node_at, variables_of, contains}
 use Rattle.pt_terms.specs.declared.meaning.Meaning.{Meaning}
 use Rattle.pt_terms.specs.declared.meaning.Meaning.TheVariants.{Int, Bool as Truth}
 use Rattle.pt_terms.specs.declared.meaning.Sort.{Sort}
+use Rattle.pt_terms.specs.declared.meaning.Sort.TheVariants as sort
 use Rattle.pt_terms.specs.declared.meaning.Bound.{Bound}
 use Rattle.pt_terms.specs.declared.meaning.Bound.TheVariants.{Variable, Term}
 use Rattle.pt_terms.specs.Sorts.{HasSort, sort_of, HaveSorts, AreIntegers, AreSorted}
 use Rattle.pt_terms.specs.Elaboration.{Work}
+use Rattle.pt_terms.specs.Sides.{Definition, Side}
 use Rattle.pt_grammar.specs.Words.{Name}
-use Rattle.pt_terms.specs.Names.{Use, Constant_of, Defined, Symbol}
+use Rattle.pt_terms.specs.Names.{Use, Constant_of, Defined, Standing, Symbol}
 use Rattle.pt_terms.specs.Names.{Env}
 
 -- each variable that is free in a node, or bound by one, is below `given`
@@ -33,14 +37,28 @@ pub record IsKept (f : List (Node × Position)) (given : List Sort) : Type 0 whe
   pub sorted : AreSorted f given
   pub few : length given < 2 ^ 32
 
+-- a form over variables of sort Int
+abbrev pub IsFormOver : List Sort → Form → Type 0
+IsFormOver given f = IsForm f × AreIntegers given f.terms
+
+-- increasing variables of sort Int, each with a node
+pub record IsSideIn (w : Work) (side : Side) : Type 0 where
+  pub variables : IsIncreasing (map (λ x. x.0) side)
+  pub sorts : AllByRecursion (λ (x : Definition). HasSort w.given x.0 sort.Int) side
+  pub nodes : AllByRecursion (λ (x : Definition). x.1 < length w.formula) side
+
+abbrev pub IsTermIn : Work → Term → Type 0
+IsTermIn w t = IsFormOver w.given t.form × IsSideIn w t.side
+
 -- a meaning is in the range of the work
 abbrev pub IsMeaningIn : Work → Meaning → Type 0
-IsMeaningIn w (Int f) = IsForm f × AreIntegers w.given f.terms
+IsMeaningIn w (Int t) = IsTermIn w t
 IsMeaningIn w (Truth i) = i < length w.formula
 
 abbrev pub IsUseIn : Work → Use → Type 0
 IsUseIn w (Constant_of v s) = HasSort w.given v s
 IsUseIn w (Defined parameters sorts m) = IsMeaningIn w m × HaveSorts w.given parameters sorts
+IsUseIn w (Standing m) = IsMeaningIn w m
 
 abbrev pub IsBoundIn : Work → Bound → Type 0
 IsBoundIn w (Variable v s) = HasSort w.given v s
@@ -53,7 +71,3 @@ pub record IsEnvIn (w : Work) (env : Env) : Type 0 where
 -- arguments that replace variables are in the range of the work, and each has its variable's sort
 abbrev pub AreReplacing : Work → List (ℕ × Meaning) → Type 0
 AreReplacing w rs = AllByRecursion (λ (r : ℕ × Meaning). IsMeaningIn w r.1 × HasSort w.given r.0 (sort_of r.1)) rs
-
--- a form over variables of sort Int
-abbrev pub IsFormOver : List Sort → Form → Type 0
-IsFormOver given f = IsForm f × AreIntegers given f.terms

@@ -16,7 +16,7 @@ use Rattle.pt_fresh.specs.declared.Relation.TheVariants as comparison
 use Rattle.pt_fresh.specs.declared.term.Term.{Term}
 use Rattle.pt_fresh.specs.Pairs as pairs
 use Rattle.pt_fresh.specs.Builders as builders
-use Rattle.pt_terms.specs.Elaboration.{constant_form, variable_form, Elab, give, refuse, ◌>>=◌, require, make, make_exists, making, form, fresh, define, each}
+use Rattle.pt_terms.specs.Elaboration.{constant_form, variable_form, Elab, give, refuse, ◌>>=◌, require, make, make_exists, making, form, fresh, each}
 use Rattle.pt_terms.specs.declared.meaning.Meaning.{Meaning}
 use Rattle.pt_terms.specs.declared.meaning.Meaning.TheVariants.{Int, Bool as Truth}
 use Rattle.pt_terms.specs.declared.meaning.Sort.{Sort}
@@ -148,7 +148,6 @@ abbrev pub defined : Position → Side → (ℕ → Elab ℕ) → Elab Term
 defined p side definition = do
   v ← fresh sort.Int
   d ← definition v
-  _ ← define v d
   give (beside (side ++ (v, d) ∷ []) (variable_form v))
 
 -- the constant where there are no variables, else a variable that a node defines
@@ -199,10 +198,10 @@ apply p symbol.Implies (a ∷ b ∷ rest) = truth a >>= λ i. each truth (b ∷ 
 apply p (symbol.Compare r) (a ∷ b ∷ rest) = as_truth (relation p r a.0 a.1 (b ∷ rest))
 apply p symbol.Distinct (a ∷ b ∷ rest) = as_truth (distinct p a.1 (b ∷ rest))
 apply p symbol.Ite (c ∷ a ∷ b ∷ []) = truth c >>= λ i. chosen p i a.1 b
-apply p symbol.Plus (a ∷ rest) = integer a >>= λ t. each integer rest >>= λ us. as_form (united_sides (t ∷ us)) (sums p t.form (forms_of us))
+apply p symbol.Plus (a ∷ rest) = integer a >>= λ t. each integer rest >>= λ us. as_form (united_sides t.side us) (sums p t.form (forms_of us))
 apply p symbol.Minus (a ∷ []) = integer a >>= λ t. as_form t.side (form (form_scale (negsuc 0) t.form) p)
-apply p symbol.Minus (a ∷ b ∷ rest) = integer a >>= λ t. each integer (b ∷ rest) >>= λ us. as_form (united_sides (t ∷ us)) (differences p t.form (forms_of us))
-apply p symbol.Times (a ∷ rest) = integer a >>= λ t. each integer rest >>= λ us. as_form (united_sides (t ∷ us)) (products p t.form (forms_of us))
+apply p symbol.Minus (a ∷ b ∷ rest) = integer a >>= λ t. each integer (b ∷ rest) >>= λ us. as_form (united_sides t.side us) (differences p t.form (forms_of us))
+apply p symbol.Times (a ∷ rest) = integer a >>= λ t. each integer rest >>= λ us. as_form (united_sides t.side us) (products p t.form (forms_of us))
 apply p symbol.Div (a ∷ b ∷ rest) = integer a >>= λ t. each integer (b ∷ rest) >>= λ us. as_term (quotients p t us)
 apply p symbol.Mod (a ∷ b ∷ []) = integer a >>= λ t. integer b >>= λ u. as_term (divisor p u >>= λ n. remainder p n t)
 apply p symbol.Abs (a ∷ []) = integer a >>= λ t. as_term (magnitude p t)
@@ -228,22 +227,27 @@ abbrev pub replacement : List (ℕ × Meaning) → ℕ → Option Meaning
 replacement [] v = None
 replacement (r ∷ rs) v = if r.0 == v then Some r.1 else replacement rs v
 
--- the form in the place of a variable of sort Int: the argument that replaces it, else itself
+-- the new number of a variable or of a node, if it has one
+abbrev pub copy_of : List (ℕ × ℕ) → ℕ → ℕ
+copy_of [] i = i
+copy_of (c ∷ copies) i = if c.0 == i then c.1 else copy_of copies i
+
+-- the form in the place of a variable of sort Int: the argument that replaces it, else the variable of its new number
 abbrev pub form_for : ℕ → Option Meaning → Form
 form_for v None = variable_form v
 form_for v (Some (Int t)) = t.form
 form_for v (Some (Truth i)) = constant_form (pos 0)
 
-abbrev pub replacing : List (ℕ × Meaning) → ℕ → Form
-replacing rs v = form_for v (replacement rs v)
+abbrev pub replacing : List (ℕ × Meaning) → List (ℕ × ℕ) → ℕ → Form
+replacing rs numbers v = form_for (copy_of numbers v) (replacement rs v)
 
 -- the terms with forms in place of variables, added up behind f
-abbrev pub substituted : Position → List (ℕ × Meaning) → Form → List Monomial → Elab Form
-substituted p rs f [] = give f
-substituted p rs f (t ∷ ts) = do
-  g ← form (form_scale t.1 (replacing rs t.0)) p
+abbrev pub substituted : Position → List (ℕ × Meaning) → List (ℕ × ℕ) → Form → List Monomial → Elab Form
+substituted p rs numbers f [] = give f
+substituted p rs numbers f (t ∷ ts) = do
+  g ← form (form_scale t.1 (replacing rs numbers t.0)) p
   h ← form (form_sum f g) p
-  substituted p rs h ts
+  substituted p rs numbers h ts
 
 abbrev pub new_constant : Kind → ℤ → ℤ
 new_constant (Mod m) c = int_rem_euclid c (pos m)
@@ -265,18 +269,13 @@ abbrev pub atom_closed : Position → Kind → List Monomial → ℤ → Side �
 atom_closed p kind ts c side = making p (pairs.atom p kind ts c) >>= λ i. making p (builders.close i side p)
 
 -- the copy of an atom, unless a node stands in its place
-abbrev pub copied_atom : Position → List (ℕ × Meaning) → Kind → List Monomial → ℤ → Option ℕ → Elab ℕ
-copied_atom p rs kind ts c (Some i) = give i
-copied_atom p rs kind ts c None = substituted p rs (constant_form (pos 0)) ts >>= λ g. atom_closed p kind g.terms (new_constant kind (c -ℤ g.constant)) (replaced_side rs)
+abbrev pub copied_atom : Position → List (ℕ × Meaning) → List (ℕ × ℕ) → Kind → List Monomial → ℤ → Option ℕ → Elab ℕ
+copied_atom p rs numbers kind ts c (Some i) = give i
+copied_atom p rs numbers kind ts c None = substituted p rs numbers (constant_form (pos 0)) ts >>= λ g. atom_closed p kind g.terms (new_constant kind (c -ℤ g.constant)) (replaced_side [] rs)
 
--- the new number of a node that is copied, or of a variable that stands for a term
-abbrev pub copy_of : List (ℕ × ℕ) → ℕ → ℕ
-copy_of [] i = i
-copy_of (c ∷ copies) i = if c.0 == i then c.1 else copy_of copies i
-
--- the copy of a node, with terms in the places of variables and new numbers for those that are bound
+-- the copy of a node, with arguments in the places of parameters, and with new numbers for some variables, also where they are bound
 abbrev pub copy_node : Position → List (ℕ × Meaning) → List (ℕ × ℕ) → List (ℕ × ℕ) → Node → Elab ℕ
-copy_node p rs numbers copies (node.Atom kind terms c) = copied_atom p rs kind terms c (truth_for rs terms)
+copy_node p rs numbers copies (node.Atom kind terms c) = copied_atom p rs numbers kind terms c (truth_for rs terms)
 copy_node p rs numbers copies (node.Not a) = make (node.Not (copy_of copies a)) p
 copy_node p rs numbers copies (node.And a b) = make (node.And (copy_of copies a) (copy_of copies b)) p
 copy_node p rs numbers copies (node.Or a b) = make (node.Or (copy_of copies a) (copy_of copies b)) p
@@ -307,45 +306,36 @@ reached f roots = filter (λ d. list_any (λ a. reaches_within a f a d) roots) (
 abbrev pub nodes_now : Elab (List (Node × Position))
 nodes_now w = Ok (w.formula, w)
 
--- the nodes that some nodes reach with their copies
-abbrev pub copy : Position → List (ℕ × Meaning) → List (ℕ × ℕ) → List ℕ → Elab (List (ℕ × ℕ))
-copy p rs numbers roots = nodes_now >>= λ f. copy_nodes p rs numbers f [] (reached f roots)
+-- the copies of some nodes; what they reach is copied once, in order
+abbrev pub copy : Position → List (ℕ × Meaning) → List (ℕ × ℕ) → List ℕ → Elab (List ℕ)
+copy p rs numbers roots = do
+  f ← nodes_now
+  copies ← copy_nodes p rs numbers f [] (reached f roots)
+  give (map (copy_of copies) roots)
 
 -- a new number for each variable of a side
 abbrev pub renumbered : Side → Elab (List (ℕ × ℕ))
 renumbered [] = give []
 renumbered (x ∷ side) = fresh sort.Int >>= λ v. renumbered side >>= λ numbers. give ((x.0, v) ∷ numbers)
 
--- the terms that the new numbers are
-abbrev pub renamed : List (ℕ × ℕ) → List (ℕ × Meaning)
-renamed numbers = map (λ n. (n.0, Int (plain (variable_form n.1)))) numbers
-
--- a side with its new variables, and with copies of its nodes
-abbrev pub copied_side : List (ℕ × ℕ) → List (ℕ × ℕ) → Side → Side
-copied_side numbers copies side = map (λ x. (copy_of numbers x.0, copy_of copies x.1)) side
-
-abbrev pub define_all : Side → Elab (Unit {0})
-define_all [] = give tt
-define_all (x ∷ side) = define x.0 x.1 >>= λ _. define_all side
-
--- a copy of a side, beside the numbers of its variables
-abbrev pub copy_side : Position → List (ℕ × Meaning) → Side → Elab (List (ℕ × ℕ) × Side)
-copy_side p rs side = do
-  numbers ← renumbered side
-  copies ← copy p (rs ++ renamed numbers) numbers (map (λ x. x.1) side)
-  _ ← define_all (copied_side numbers copies side)
-  give (numbers, copied_side numbers copies side)
-
--- a term with others in the places of variables; its side is copied
+-- a term with arguments in the places of parameters, and with a copy of its side
 abbrev pub instance_term : Position → List (ℕ × Meaning) → Term → Elab Term
 instance_term p rs t = do
-  c ← copy_side p rs t.side
-  f ← substituted p (rs ++ renamed c.0) (constant_form t.form.constant) t.form.terms
-  give (beside (replaced_side rs ++ c.1) f)
+  numbers ← renumbered t.side
+  nodes ← copy p rs numbers (map (λ x. x.1) t.side)
+  f ← substituted p rs numbers (constant_form t.form.constant) t.form.terms
+  give (beside (replaced_side [] rs ++ paired numbers nodes) f)
+
+-- a node with arguments in the places of parameters
+abbrev pub instance_node : Position → List (ℕ × Meaning) → ℕ → Elab ℕ
+instance_node p rs i = do
+  f ← nodes_now
+  copies ← copy_nodes p rs [] f [] (reached f (i ∷ []))
+  give (copy_of copies i)
 
 abbrev pub instance_of : Position → List (ℕ × Meaning) → Meaning → Elab Meaning
 instance_of p rs (Int t) = as_term (instance_term p rs t)
-instance_of p rs (Truth i) = copy p rs [] (i ∷ []) >>= λ copies. give (Truth (copy_of copies i))
+instance_of p rs (Truth i) = as_truth (instance_node p rs i)
 
 -- a definition without parameters as a term of its own: what it stands for, but a side is copied
 abbrev pub used_term : Position → Term → Side → Elab Term
