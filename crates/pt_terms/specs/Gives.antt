@@ -10,7 +10,9 @@ use Rattle.pt_syntax.specs.declared.kinds.ReadKind.TheVariants.{Coefficient, Tra
 use Rattle.pt_syntax.specs.declared.kinds.ReadRefusal.{ReadRefusal}
 use Rattle.pt_terms.specs.declared.meaning.Sort.{Sort}
 use Rattle.pt_syntax.specs.Rest.{no_memory}
-use Rattle.pt_terms.specs.Elaboration.{fault_kind, Work, Elab}
+use Rattle.pt_fresh.specs.declared.fault.TermFault.{TermFault}
+use Rattle.pt_fresh.specs.declared.fault.TermFault.TheVariants as term_fault
+use Rattle.pt_terms.specs.Elaboration.{fault_kind, term_kind, Work, Elab}
 
 abbrev pub Fails : {A : Type 0} → ReadRefusal → Result A ReadRefusal → Type 0
 Fails e given = (given ≡ Err e) ⊎ (e ≡ no_memory)
@@ -34,6 +36,10 @@ pub record Grows (old new : Work) : Type 0 where
 abbrev pub IsRefusalOf : FormulaFault → Position → ReadRefusal → Type 0
 IsRefusalOf fault.NoMemory p e = e ≡ no_memory
 IsRefusalOf f p e = e ≡ record { kind = fault_kind f; position = p }
+
+abbrev pub IsTermRefusal : TermFault → Position → ReadRefusal → Type 0
+IsTermRefusal term_fault.NoMemory p e = e ≡ no_memory
+IsTermRefusal f p e = e ≡ record { kind = term_kind f; position = p }
 
 abbrev pub IsFormRefusal : FormFault → Position → ReadRefusal → Type 0
 IsFormRefusal form_fault.Coefficient p e = e ≡ record { kind = Coefficient; position = p }

@@ -1,23 +1,26 @@
 // Applications of the symbols of the theories to arguments.
-ghost use Rattle.std.specs.Prelude.{◌≡◌, ◌<◌, ◌^◌, pos, neg_ℤ};
-ghost use Rattle.std.specs.Int.{int_rem_euclid};
-
+ghost use Rattle.std.specs.Prelude.{◌≡◌};
+ghost use Rattle.pt_terms.specs.Sides.{beside};
+ghost use Rattle.pt_terms.specs.declared.meaning.Meaning.TheVariants.{Int};
 use crate::arithmetic::{Argument, copy_of_form};
 use crate::elaborator::Elaborator;
 use crate::meaning::Meaning;
 use crate::refusals::refused;
-use pt_formula::{Form, Kind, Op, Position};
+use crate::uniting::{Definition, united_sides};
+use pt_formula::{Form, Op, Position};
+use pt_fresh::{Side, Term};
 use pt_grammar::words::{Operator, Relation};
 use pt_syntax::{ReadKind, ReadRefusal};
 use std::alloc::Global;
 
-/// The residue of the negative of a number.
-fn residue_of_negative(constant: i64, modulus: u64) -> i128
-    requires some { 0 < modulus }
-    requires small { modulus < 2 ^ 63 }
-    ensures { result ≡ int_rem_euclid (neg_ℤ constant) (pos modulus) }
+/// A form with a side.
+fn beside(side: Vec<Definition>, form: Form) -> Meaning
+    ensures { result ≡ Int (beside side.items form) }
 {
-    (-i128::from(constant)).rem_euclid(i128::from(modulus))
+    Meaning::Int(Term {
+        form,
+        side: Side::new(side),
+    })
 }
 
 impl Elaborator {
@@ -118,9 +121,9 @@ impl Elaborator {
                 }
                 _ => Err(refused(ReadKind::Sort, first.0)),
             },
-            Meaning::Int(f) => {
+            Meaning::Int(t) => {
                 let others = self.integers(alloc, rest)?;
-                self.compare_neighbours(alloc, at, how, f, others.as_slice())
+                self.compare_neighbours(alloc, at, how, t, others.as_slice())
             }
         }
     }
@@ -186,8 +189,8 @@ impl Elaborator {
                 self.all_unlike(alloc, at, nodes.as_slice())
             }
             Meaning::Int(_) => {
-                let forms = self.integers(alloc, all)?;
-                self.all_different(alloc, at, forms.as_slice())
+                let terms = self.integers(alloc, all)?;
+                self.all_different(alloc, at, terms.as_slice())
             }
         }
     }
@@ -213,9 +216,10 @@ impl Elaborator {
                 let n = self.choice(alloc, at, c, *i, j)?;
                 Ok(Meaning::Bool(n))
             }
-            Meaning::Int(_) => {
-                self.integer(b)?;
-                Err(refused(ReadKind::Unsupported, at))
+            Meaning::Int(t) => {
+                let u = self.integer(b)?;
+                let chosen = self.chosen_term(alloc, at, c, t, u)?;
+                Ok(Meaning::Int(chosen))
             }
         }
     }
@@ -262,11 +266,12 @@ impl Elaborator {
         match arguments {
             [] => Err(refused(ReadKind::Sort, at)),
             [a, rest @ ..] => {
-                let f = self.integer(a)?;
+                let t = self.integer(a)?;
                 let others = self.integers(alloc, rest)?;
-                let first = self.copied(alloc, f)?;
-                let sum = self.sum_all(alloc, at, first, others.as_slice())?;
-                Ok(Meaning::Int(sum))
+                let first = self.copied(alloc, &t.form)?;
+                let form = self.sum_all(alloc, at, first, others.as_slice())?;
+                let side = united_sides(alloc, t, others.as_slice())?;
+                Ok(beside(side, form))
             }
         }
     }
@@ -285,16 +290,18 @@ impl Elaborator {
         match arguments {
             [] => Err(refused(ReadKind::Sort, at)),
             [a] => {
-                let f = self.integer(a)?;
-                let g = self.scale(alloc, -1, f, at)?;
-                Ok(Meaning::Int(g))
+                let t = self.integer(a)?;
+                let form = self.scale(alloc, -1, &t.form, at)?;
+                let side = united_sides(alloc, t, &[])?;
+                Ok(beside(side, form))
             }
             [a, rest @ ..] => {
-                let f = self.integer(a)?;
+                let t = self.integer(a)?;
                 let others = self.integers(alloc, rest)?;
-                let first = self.copied(alloc, f)?;
-                let g = self.subtract_all(alloc, at, first, others.as_slice())?;
-                Ok(Meaning::Int(g))
+                let first = self.copied(alloc, &t.form)?;
+                let form = self.subtract_all(alloc, at, first, others.as_slice())?;
+                let side = united_sides(alloc, t, others.as_slice())?;
+                Ok(beside(side, form))
             }
         }
     }
@@ -313,11 +320,12 @@ impl Elaborator {
         match arguments {
             [] => Err(refused(ReadKind::Sort, at)),
             [a, rest @ ..] => {
-                let f = self.integer(a)?;
+                let t = self.integer(a)?;
                 let others = self.integers(alloc, rest)?;
-                let first = self.copied(alloc, f)?;
-                let product = self.multiply_all(alloc, at, first, others.as_slice())?;
-                Ok(Meaning::Int(product))
+                let first = self.copied(alloc, &t.form)?;
+                let form = self.multiply_all(alloc, at, first, others.as_slice())?;
+                let side = united_sides(alloc, t, others.as_slice())?;
+                Ok(beside(side, form))
             }
         }
     }
@@ -347,6 +355,9 @@ impl Elaborator {
             Operator::Plus => self.apply_sum(alloc, at, arguments),
             Operator::Minus => self.apply_difference(alloc, at, arguments),
             Operator::Times => self.apply_product(alloc, at, arguments),
+            Operator::Div => self.apply_quotient(alloc, at, arguments),
+            Operator::Mod => self.apply_remainder(alloc, at, arguments),
+            Operator::Abs => self.apply_magnitude(alloc, at, arguments),
         }
     }
 
@@ -367,10 +378,9 @@ impl Elaborator {
     {
         match arguments {
             [a] => {
-                let f = self.integer(a)?;
-                let constant = residue_of_negative(f.constant, modulus);
-                let kind = Kind::Mod(modulus);
-                let n = self.relation_atom(alloc, kind, f.terms.as_slice(), constant, at)?;
+                let t = self.integer(a)?;
+                let i = self.divisible(alloc, modulus, &t.form, at)?;
+                let n = self.close(alloc, i, t.side.as_slice(), at)?;
                 Ok(Meaning::Bool(n))
             }
             _ => Err(refused(ReadKind::Sort, at)),

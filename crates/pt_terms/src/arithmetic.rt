@@ -1,6 +1,7 @@
 // Linear forms: their sums, differences and products, refused at a term.
 ghost use Rattle.std.specs.Prelude.{◌≡◌, IfOk};
 ghost use Rattle.pt_terms.specs.Elaboration.{constant_form, variable_form};
+ghost use Rattle.pt_terms.specs.Sides.{plain};
 
 use crate::elaborator::Elaborator;
 use crate::meaning::{Bound, Meaning};
@@ -8,6 +9,7 @@ use crate::refusals::{form_refusal, refused};
 use pt_digits::NoMemory;
 use pt_formula::form::{difference, scale, sum};
 use pt_formula::{Form, Position, Terms};
+use pt_fresh::{Side, Term};
 use pt_syntax::{ReadKind, ReadRefusal};
 use std::alloc::Global;
 
@@ -44,13 +46,35 @@ pub(crate) fn copy_of_form(alloc: Global, f: &Form) -> Result<Form, NoMemory>
     })
 }
 
+/// A form alone as a term.
+pub fn plain(alloc: Global, form: Form) -> Term
+    ensures { result ≡ plain form }
+{
+    Term {
+        form,
+        side: Side::new(Vec::new(alloc)),
+    }
+}
+
+/// The same term once more.
+pub(crate) fn copy_of_term(alloc: Global, t: &Term) -> Result<Term, NoMemory>
+    ensures { IfOk result (λ u. u ≡ t.now) }
+{
+    let form = copy_of_form(alloc, &t.form)?;
+    let side = Vec::from_slice(alloc, t.side.as_slice())?;
+    Ok(Term {
+        form,
+        side: Side::new(side),
+    })
+}
+
 /// The same meaning once more.
 pub fn copy_of_meaning(alloc: Global, meaning: &Meaning) -> Result<Meaning, NoMemory>
     ensures { IfOk result (λ m. m ≡ meaning.now) }
 {
     match meaning {
-        Meaning::Int(f) => {
-            let copy = copy_of_form(alloc, f)?;
+        Meaning::Int(t) => {
+            let copy = copy_of_term(alloc, t)?;
             Ok(Meaning::Int(copy))
         }
         Meaning::Bool(i) => Ok(Meaning::Bool(*i)),
@@ -80,36 +104,37 @@ impl Elaborator {
     ghost use Rattle.pt_terms.specs.Elaboration.{form, each};
     ghost use Rattle.pt_terms.specs.Theory.{integer, truth, truth_of, sums, differences, product, products, Argument};
     ghost use Rattle.pt_terms.specs.Gives.{Gives};
-    ghost use Rattle.pt_terms.specs.Sound.{IsFormOver, IsMeaningIn};
+    ghost use Rattle.pt_terms.specs.Sides.{forms_of};
+    ghost use Rattle.pt_terms.specs.Sound.{IsFormOver, IsTermIn, IsMeaningIn};
 
-    /// The form that an argument is.
-    pub(crate) fn integer<'a>(&self, argument: &'a Argument) -> Result<&'a Form, ReadRefusal>
+    /// The term that an argument is.
+    pub(crate) fn integer<'a>(&self, argument: &'a Argument) -> Result<&'a Term, ReadRefusal>
         requires { IsMeaningIn self.now argument.now.1 }
-        ensures gives { Gives (λ f. f.now) result self.now self.now (integer argument.now) }
-        ensures range { IfOk result (λ f. IsFormOver self.now.given f.now) }
+        ensures gives { Gives (λ t. t.now) result self.now self.now (integer argument.now) }
+        ensures range { IfOk result (λ t. IsTermIn self.now t.now) }
     {
         match &argument.1 {
-            Meaning::Int(f) => Ok(f),
+            Meaning::Int(t) => Ok(t),
             Meaning::Bool(_) => Err(refused(ReadKind::Sort, argument.0)),
         }
     }
 
-    /// The forms that arguments are.
+    /// The terms that arguments are.
     pub(crate) fn integers<'a>(
         &self,
         alloc: Global,
         arguments: &'a [Argument],
-    ) -> Result<Vec<&'a Form>, ReadRefusal>
+    ) -> Result<Vec<&'a Term>, ReadRefusal>
         requires { All (λ (a : Argument). IsMeaningIn self.now a.1) arguments.now }
-        ensures gives { Gives (λ v. map (λ f. f.now) v.items) result self.now self.now (each integer arguments.now) }
-        ensures range { IfOk result (λ v. All (λ f. IsFormOver self.now.given f.now) v.items) }
+        ensures gives { Gives (λ v. map (λ t. t.now) v.items) result self.now self.now (each integer arguments.now) }
+        ensures range { IfOk result (λ v. All (λ t. IsTermIn self.now t.now) v.items) }
     {
-        let mut forms = Vec::new(alloc);
+        let mut terms = Vec::new(alloc);
         for a in arguments {
-            let f = self.integer(a)?;
-            forms.push(f)?;
+            let t = self.integer(a)?;
+            terms.push(t)?;
         }
-        Ok(forms)
+        Ok(terms)
     }
 
     /// The node that a term at a place is.
@@ -238,16 +263,16 @@ impl Elaborator {
         alloc: Global,
         at: Position,
         first: Form,
-        rest: &[&Form],
+        rest: &[&Term],
     ) -> Result<Form, ReadRefusal>
         requires first { IsFormOver self.now.given first }
-        requires rest { All (λ f. IsFormOver self.now.given f.now) rest.now }
-        ensures gives { Gives (λ h. h) result self.now self.now (sums at first (map (λ f. f.now) rest.now)) }
+        requires rest { All (λ t. IsTermIn self.now t.now) rest.now }
+        ensures gives { Gives (λ h. h) result self.now self.now (sums at first (forms_of (map (λ t. t.now) rest.now))) }
         ensures range { IfOk result (IsFormOver self.now.given) }
     {
         let mut so_far = first;
-        for f in rest {
-            so_far = self.sum(alloc, &so_far, *f, at)?;
+        for t in rest {
+            so_far = self.sum(alloc, &so_far, &t.form, at)?;
         }
         Ok(so_far)
     }
@@ -258,16 +283,16 @@ impl Elaborator {
         alloc: Global,
         at: Position,
         first: Form,
-        rest: &[&Form],
+        rest: &[&Term],
     ) -> Result<Form, ReadRefusal>
         requires first { IsFormOver self.now.given first }
-        requires rest { All (λ f. IsFormOver self.now.given f.now) rest.now }
-        ensures gives { Gives (λ h. h) result self.now self.now (differences at first (map (λ f. f.now) rest.now)) }
+        requires rest { All (λ t. IsTermIn self.now t.now) rest.now }
+        ensures gives { Gives (λ h. h) result self.now self.now (differences at first (forms_of (map (λ t. t.now) rest.now))) }
         ensures range { IfOk result (IsFormOver self.now.given) }
     {
         let mut so_far = first;
-        for f in rest {
-            so_far = self.difference(alloc, &so_far, *f, at)?;
+        for t in rest {
+            so_far = self.difference(alloc, &so_far, &t.form, at)?;
         }
         Ok(so_far)
     }
@@ -278,16 +303,16 @@ impl Elaborator {
         alloc: Global,
         at: Position,
         first: Form,
-        rest: &[&Form],
+        rest: &[&Term],
     ) -> Result<Form, ReadRefusal>
         requires first { IsFormOver self.now.given first }
-        requires rest { All (λ f. IsFormOver self.now.given f.now) rest.now }
-        ensures gives { Gives (λ h. h) result self.now self.now (products at first (map (λ f. f.now) rest.now)) }
+        requires rest { All (λ t. IsTermIn self.now t.now) rest.now }
+        ensures gives { Gives (λ h. h) result self.now self.now (products at first (forms_of (map (λ t. t.now) rest.now))) }
         ensures range { IfOk result (IsFormOver self.now.given) }
     {
         let mut so_far = first;
-        for f in rest {
-            so_far = self.product(alloc, &so_far, *f, at)?;
+        for t in rest {
+            so_far = self.product(alloc, &so_far, &t.form, at)?;
         }
         Ok(so_far)
     }

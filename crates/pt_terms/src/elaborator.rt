@@ -9,12 +9,14 @@ ghost use Rattle.pt_terms.specs.Sound.{AreBelow};
 ghost use Rattle.pt_terms.specs.Below.{BindsBelow};
 
 use crate::meaning::Sort;
-use crate::refusals::builder_refusal;
+use crate::refusals::{builder_refusal, term_refusal};
 use pt_digits::NoMemory;
 use pt_formula::laws::{
     appended_nodes_change_no_earlier_one, trees_are_made_of_those_of_the_children,
 };
-use pt_formula::{Formula, Kind, Node, Op, Position};
+use pt_formula::{Form, Formula, Kind, Node, Op, Position};
+use pt_fresh::{choice, close, compare, divide, divisible, magnitude, relation_atom, remainder};
+use pt_grammar::words::Relation;
 use pt_syntax::{ReadRefusal, no_memory};
 use std::alloc::Global;
 use std::marker::Model;
@@ -136,33 +138,6 @@ impl Elaborator {
         }
     }
 
-    /// The node of an atom with at least one term.
-    pub(crate) fn atom(
-        &mut self,
-        alloc: Global,
-        kind: Kind,
-        terms: &[(u32, i64)],
-        constant: i64,
-        at: Position,
-    ) -> Result<u32, ReadRefusal>
-        requires some { 0 < length terms.now }
-        requires terms { AreTerms terms.now }
-        requires sorts { AreIntegers self.old.given terms.now }
-        requires kind { IsModulus kind }
-        ensures gives { Gives (λ i. i) result self.old self.new (make (node.Atom kind terms.now constant) at) }
-        ensures range { IfOk result (λ i. i < length self.new.formula) }
-        ensures grows { Grows self.old self.new }
-    {
-        appended_nodes_keep_variables_below();
-        self.formula.is_formula();
-        let made = self.formula.atom(alloc, kind, terms, constant, at);
-        self.formula.is_formula();
-        match made {
-            Ok(id) => Ok(id),
-            Err(fault) => Err(builder_refusal(fault, at)),
-        }
-    }
-
     /// The negation of a node.
     pub(crate) fn not(&mut self, alloc: Global, a: u32, at: Position) -> Result<u32, ReadRefusal>
         requires a { a < length self.old.formula }
@@ -242,6 +217,251 @@ impl Elaborator {
         }
         self.sorts.push(sort)?;
         Ok(v as u32)
+    }
+}
+
+/// Nodes that are made of terms. A step that is refused adds none.
+impl Elaborator {
+    ghost use Rattle.std.specs.Prelude.{◌≡◌, ◌≢◌, ◌<◌, ◌^◌, length, pos, IfOk};
+    ghost use Rattle.std.specs.List.{AllByRecursion};
+    ghost use Rattle.pt_atoms.specs.Atoms.{IsModulus};
+    ghost use Rattle.pt_formula.specs.Forms.{AreTerms};
+    ghost use Rattle.pt_fresh.specs.Pairs as pairs;
+    ghost use Rattle.pt_fresh.specs.Builders as builders;
+    ghost use Rattle.pt_terms.specs.Elaboration.{making};
+    ghost use Rattle.pt_terms.specs.Gives.{Gives, Grows};
+    ghost use Rattle.pt_terms.specs.Sides.{Definition};
+    ghost use Rattle.pt_terms.specs.declared.meaning.Sort.TheVariants as sort;
+    ghost use Rattle.pt_terms.specs.Sorts.{HasSort, AreIntegers};
+    ghost use Rattle.pt_terms.specs.Sound.{IsFormOver};
+
+    /// That terms compare with a constant: an atom, or True or False without terms.
+    pub(crate) fn relation_atom(
+        &mut self,
+        alloc: Global,
+        kind: Kind,
+        terms: &[(u32, i64)],
+        constant: i128,
+        at: Position,
+    ) -> Result<u32, ReadRefusal>
+        requires terms { AreTerms terms.now }
+        requires sorts { AreIntegers self.old.given terms.now }
+        requires kind { IsModulus kind }
+        ensures gives { Gives (λ i. i) result self.old self.new (making at (pairs.atom at kind terms.now constant)) }
+        ensures range { IfOk result (λ i. i < length self.new.formula) }
+        ensures grows { Grows self.old self.new }
+    {
+        self.formula.is_formula();
+        let count = self.formula.len();
+        let made = relation_atom(&mut self.formula, alloc, kind, terms, constant, at);
+        self.formula.is_formula();
+        match made {
+            Ok(id) => Ok(id),
+            Err(fault) => {
+                self.formula.truncate(count);
+                Err(term_refusal(fault, at))
+            }
+        }
+    }
+
+    /// That two forms compare.
+    pub(crate) fn compare_forms(
+        &mut self,
+        alloc: Global,
+        relation: Relation,
+        a: &Form,
+        b: &Form,
+        at: Position,
+    ) -> Result<u32, ReadRefusal>
+        requires a { IsFormOver self.old.given a.now }
+        requires b { IsFormOver self.old.given b.now }
+        ensures gives { Gives (λ i. i) result self.old self.new (making at (pairs.compare at relation a.now b.now)) }
+        ensures range { IfOk result (λ i. i < length self.new.formula) }
+        ensures grows { Grows self.old self.new }
+    {
+        self.formula.is_formula();
+        let count = self.formula.len();
+        let made = compare(&mut self.formula, alloc, relation, a, b, at);
+        self.formula.is_formula();
+        match made {
+            Ok(id) => Ok(id),
+            Err(fault) => {
+                self.formula.truncate(count);
+                Err(term_refusal(fault, at))
+            }
+        }
+    }
+
+    /// That a number divides a form.
+    pub(crate) fn divisible(
+        &mut self,
+        alloc: Global,
+        n: u64,
+        a: &Form,
+        at: Position,
+    ) -> Result<u32, ReadRefusal>
+        requires some { 0 < n }
+        requires small { n < 2 ^ 63 }
+        requires a { IsFormOver self.old.given a.now }
+        ensures gives { Gives (λ i. i) result self.old self.new (making at (pairs.divisible at n a.now)) }
+        ensures range { IfOk result (λ i. i < length self.new.formula) }
+        ensures grows { Grows self.old self.new }
+    {
+        self.formula.is_formula();
+        let count = self.formula.len();
+        let made = divisible(&mut self.formula, alloc, n, a, at);
+        self.formula.is_formula();
+        match made {
+            Ok(id) => Ok(id),
+            Err(fault) => {
+                self.formula.truncate(count);
+                Err(term_refusal(fault, at))
+            }
+        }
+    }
+
+    /// The node with the variables of a side bound by their definitions.
+    pub(crate) fn close(
+        &mut self,
+        alloc: Global,
+        a: u32,
+        side: &[(u32, u32)],
+        at: Position,
+    ) -> Result<u32, ReadRefusal>
+        requires a { a < length self.old.formula }
+        requires nodes { AllByRecursion (λ (x : Definition). x.1 < length self.old.formula) side.now }
+        requires sorts { AllByRecursion (λ (x : Definition). HasSort self.old.given x.0 sort.Int) side.now }
+        ensures gives { Gives (λ i. i) result self.old self.new (making at (builders.close a side.now at)) }
+        ensures range { IfOk result (λ i. i < length self.new.formula) }
+        ensures grows { Grows self.old self.new }
+    {
+        self.formula.is_formula();
+        let count = self.formula.len();
+        let made = close(&mut self.formula, alloc, a, side, at);
+        self.formula.is_formula();
+        match made {
+            Ok(id) => Ok(id),
+            Err(fault) => {
+                self.formula.truncate(count);
+                Err(term_refusal(fault, at))
+            }
+        }
+    }
+
+    /// That a variable is the quotient of a form.
+    pub(crate) fn define_quotient(
+        &mut self,
+        alloc: Global,
+        v: u32,
+        a: &Form,
+        n: i64,
+        at: Position,
+    ) -> Result<u32, ReadRefusal>
+        requires v { HasSort self.old.given v sort.Int }
+        requires a { IsFormOver self.old.given a.now }
+        requires n { n ≢ pos 0 }
+        ensures gives { Gives (λ i. i) result self.old self.new (making at (builders.divide v a.now n at)) }
+        ensures range { IfOk result (λ i. i < length self.new.formula) }
+        ensures grows { Grows self.old self.new }
+    {
+        self.formula.is_formula();
+        let count = self.formula.len();
+        let made = divide(&mut self.formula, alloc, v, a, n, at);
+        self.formula.is_formula();
+        match made {
+            Ok(id) => Ok(id),
+            Err(fault) => {
+                self.formula.truncate(count);
+                Err(term_refusal(fault, at))
+            }
+        }
+    }
+
+    /// That a variable is the remainder of a form.
+    pub(crate) fn define_remainder(
+        &mut self,
+        alloc: Global,
+        v: u32,
+        a: &Form,
+        n: i64,
+        at: Position,
+    ) -> Result<u32, ReadRefusal>
+        requires v { HasSort self.old.given v sort.Int }
+        requires a { IsFormOver self.old.given a.now }
+        requires n { n ≢ pos 0 }
+        ensures gives { Gives (λ i. i) result self.old self.new (making at (builders.remainder v a.now n at)) }
+        ensures range { IfOk result (λ i. i < length self.new.formula) }
+        ensures grows { Grows self.old self.new }
+    {
+        self.formula.is_formula();
+        let count = self.formula.len();
+        let made = remainder(&mut self.formula, alloc, v, a, n, at);
+        self.formula.is_formula();
+        match made {
+            Ok(id) => Ok(id),
+            Err(fault) => {
+                self.formula.truncate(count);
+                Err(term_refusal(fault, at))
+            }
+        }
+    }
+
+    /// That a variable is the absolute value of a form.
+    pub(crate) fn define_magnitude(
+        &mut self,
+        alloc: Global,
+        v: u32,
+        a: &Form,
+        at: Position,
+    ) -> Result<u32, ReadRefusal>
+        requires v { HasSort self.old.given v sort.Int }
+        requires a { IsFormOver self.old.given a.now }
+        ensures gives { Gives (λ i. i) result self.old self.new (making at (builders.magnitude v a.now at)) }
+        ensures range { IfOk result (λ i. i < length self.new.formula) }
+        ensures grows { Grows self.old self.new }
+    {
+        self.formula.is_formula();
+        let count = self.formula.len();
+        let made = magnitude(&mut self.formula, alloc, v, a, at);
+        self.formula.is_formula();
+        match made {
+            Ok(id) => Ok(id),
+            Err(fault) => {
+                self.formula.truncate(count);
+                Err(term_refusal(fault, at))
+            }
+        }
+    }
+
+    /// That a variable is one form where a node holds, and else another.
+    pub(crate) fn define_choice(
+        &mut self,
+        alloc: Global,
+        v: u32,
+        c: u32,
+        a: &Form,
+        b: &Form,
+        at: Position,
+    ) -> Result<u32, ReadRefusal>
+        requires v { HasSort self.old.given v sort.Int }
+        requires c { c < length self.old.formula }
+        requires a { IsFormOver self.old.given a.now }
+        requires b { IsFormOver self.old.given b.now }
+        ensures gives { Gives (λ i. i) result self.old self.new (making at (builders.choice v c a.now b.now at)) }
+        ensures range { IfOk result (λ i. i < length self.new.formula) }
+        ensures grows { Grows self.old self.new }
+    {
+        self.formula.is_formula();
+        let count = self.formula.len();
+        let made = choice(&mut self.formula, alloc, v, c, a, b, at);
+        self.formula.is_formula();
+        match made {
+            Ok(id) => Ok(id),
+            Err(fault) => {
+                self.formula.truncate(count);
+                Err(term_refusal(fault, at))
+            }
+        }
     }
 }
 

@@ -28,4 +28,5 @@ pub mod symbols;
 mod terms;
 #[cfg(test)]
 mod tests;
+mod uniting;
 mod whole_terms;

@@ -2,7 +2,7 @@ ghost use Rattle.std.specs.Prelude.{◌≡◌};
 ghost use Rattle.pt_terms.specs.Sorts.{same_sort, sort_of};
 
 use crate::bytes::Bytes;
-use pt_formula::Form;
+use pt_fresh::Term;
 
 /// The sort of a variable or of a term. A variable of sort Bool is an integer like any other, and stands for true where it is odd.
 #[derive(Clone, Copy, Debug, PartialEq, Eq)]
@@ -37,10 +37,10 @@ pub struct Constant {
     pub sort: Sort,
 }
 
-/// What a term stands for: a form of sort Int, or a node of sort Bool.
+/// What a term stands for: a form of sort Int with the definitions of its fresh variables, or a node of sort Bool.
 #[derive(Drop)]
 pub enum Meaning {
-    Int(Form),
+    Int(Term),
     Bool(u32),
 }
 
@@ -54,6 +54,15 @@ impl Meaning {
             Meaning::Bool(_) => Sort::Bool,
         }
     }
+}
+
+/// What a name stands for as a term of its own: a variable of a sort, what another term stands for, or what a definition without parameters
+/// stands for.
+#[derive(Drop)]
+pub enum Plain {
+    Variable(u32, Sort),
+    Standing(Meaning),
+    Definition(Meaning),
 }
 
 /// What a name that is bound in a term stands for: a variable of a sort, or what another term stands for.

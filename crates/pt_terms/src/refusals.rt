@@ -1,8 +1,9 @@
 // Refusals at a place.
 ghost use Rattle.std.specs.Prelude.{◌≡◌};
-ghost use Rattle.pt_terms.specs.Gives.{IsRefusalOf, IsFormRefusal};
+ghost use Rattle.pt_terms.specs.Gives.{IsRefusalOf, IsFormRefusal, IsTermRefusal};
 
 use pt_formula::{FormFault, FormulaFault, Position};
+use pt_fresh::TermFault;
 use pt_syntax::{ReadKind, ReadRefusal, no_memory};
 
 pub fn refused(kind: ReadKind, position: Position) -> ReadRefusal
@@ -19,6 +20,18 @@ pub(crate) fn builder_refusal(fault: FormulaFault, at: Position) -> ReadRefusal
         FormulaFault::Tracks { position: _ } => refused(ReadKind::Tracks, at),
         FormulaFault::Nodes => refused(ReadKind::Nodes, at),
         FormulaFault::NoMemory => no_memory(),
+    }
+}
+
+/// The refusal of a node that is made of terms, at the term.
+pub(crate) fn term_refusal(fault: TermFault, at: Position) -> ReadRefusal
+    ensures { IsTermRefusal fault at result }
+{
+    match fault {
+        TermFault::Coefficient => refused(ReadKind::Coefficient, at),
+        TermFault::Tracks { position: _ } => refused(ReadKind::Tracks, at),
+        TermFault::Nodes => refused(ReadKind::Nodes, at),
+        TermFault::NoMemory => no_memory(),
     }
 }
 

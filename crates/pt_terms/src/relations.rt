@@ -1,127 +1,52 @@
-// Atoms, and relations of neighbours and of all pairs.
-ghost use Rattle.std.specs.Prelude.{◌≡◌, ◌^◌, ◌<◌, ◌≤ℤ◌, pos};
-ghost use Rattle.pt_terms.specs.Theory.{zero_compares};
-ghost use Rattle.pt_atoms.specs.Atoms.{IsModulus};
-
-use crate::arithmetic::Argument;
+// Relations of neighbours and of all pairs.
 use crate::elaborator::Elaborator;
-use crate::meaning::Meaning;
-use crate::refusals::refused;
-use pt_formula::{Form, Kind, Op, Position};
+use crate::uniting::united;
+use pt_formula::{Op, Position};
+use pt_fresh::Term;
 use pt_grammar::words::Relation;
-use pt_syntax::{ReadKind, ReadRefusal};
+use pt_syntax::ReadRefusal;
 use std::alloc::Global;
-
-/// Whether 0 compares with the constant.
-fn zero_compares_with(kind: Kind, constant: i128) -> bool
-    requires { IsModulus kind }
-    ensures { result ≡ zero_compares kind constant }
-{
-    match kind {
-        Kind::Eq => constant == 0,
-        Kind::Le => 0 <= constant,
-        Kind::Mod(m) => constant.rem_euclid(i128::from(m)) == 0,
-    }
-}
 
 /// Each pair makes its nodes and then an And with what stands so far, after the first one.
 impl Elaborator {
-    ghost use Rattle.std.specs.Prelude.{◌≡◌, ◌<◌, ℕ, ◌∷◌, pos, length, IfOk, IfSome, map, drop, All};
-    ghost use Rattle.pt_atoms.specs.Atoms.{IsModulus};
+    ghost use Rattle.std.specs.Prelude.{◌≡◌, ◌<◌, ℕ, ◌∷◌, length, IfOk, IfSome, map, drop, All};
     ghost use Rattle.pt_formula.specs.declared.node.Node.TheVariants as node;
-    ghost use Rattle.pt_formula.specs.Forms.{AreTerms};
     ghost use Rattle.pt_terms.specs.Elaboration.{make};
-    ghost use Rattle.pt_terms.specs.Theory.{atom, compared, compare, different, conjunction, neighbours, later_pairs};
+    ghost use Rattle.pt_terms.specs.Theory.{compare, different, conjunction, neighbours, later_pairs};
     ghost use Rattle.pt_terms.specs.Chains.{with_next, next, run, close, heads};
     ghost use Rattle.pt_terms.specs.Gives.{Gives, Grows};
-    ghost use Rattle.pt_terms.specs.Sorts.{AreIntegers};
-    ghost use Rattle.pt_terms.specs.Sound.{IsFormOver};
+    ghost use Rattle.pt_terms.specs.Sound.{IsTermIn};
 
-    /// The atom of the terms and the constant, or True or False without terms.
-    pub(crate) fn relation_atom(
-        &mut self,
-        alloc: Global,
-        kind: Kind,
-        terms: &[(u32, i64)],
-        constant: i128,
-        at: Position,
-    ) -> Result<u32, ReadRefusal>
-        requires terms { AreTerms terms.now }
-        requires sorts { AreIntegers self.old.given terms.now }
-        requires kind { IsModulus kind }
-        ensures gives { Gives (λ i. i) result self.old self.new (atom at kind terms.now constant) }
-        ensures range { IfOk result (λ i. i < length self.new.formula) }
-        ensures grows { Grows self.old self.new }
-    {
-        if terms.is_empty() {
-            return self.truth(alloc, zero_compares_with(kind, constant), at);
-        }
-        if constant < -0x8000_0000_0000_0000 || constant > 0x7fff_ffff_ffff_ffff {
-            return Err(refused(ReadKind::Coefficient, at));
-        }
-        self.atom(alloc, kind, terms, constant as i64, at)
-    }
-
-    /// The atom by which a difference compares with 0.
-    fn compared(
-        &mut self,
-        alloc: Global,
-        at: Position,
-        relation: Relation,
-        f: &Form,
-    ) -> Result<u32, ReadRefusal>
-        requires { IsFormOver self.old.given f.now }
-        ensures gives { Gives (λ i. i) result self.old self.new (compared at relation f.now) }
-        ensures range { IfOk result (λ i. i < length self.new.formula) }
-        ensures grows { Grows self.old self.new }
-    {
-        let terms = f.terms.as_slice();
-        let constant = -i128::from(f.constant);
-        match relation {
-            Relation::Equal => self.relation_atom(alloc, Kind::Eq, terms, constant, at),
-            Relation::AtMost | Relation::AtLeast => {
-                self.relation_atom(alloc, Kind::Le, terms, constant, at)
-            }
-            Relation::Below | Relation::Above => {
-                self.relation_atom(alloc, Kind::Le, terms, constant - 1, at)
-            }
-        }
-    }
-
-    /// The atom of a pair.
+    /// That a pair compares.
     fn compare(
         &mut self,
         alloc: Global,
         at: Position,
         relation: Relation,
-        a: &Form,
-        b: &Form,
+        a: &Term,
+        b: &Term,
     ) -> Result<u32, ReadRefusal>
-        requires a { IsFormOver self.old.given a.now }
-        requires b { IsFormOver self.old.given b.now }
+        requires a { IsTermIn self.old a.now }
+        requires b { IsTermIn self.old b.now }
         ensures gives { Gives (λ i. i) result self.old self.new (compare at relation (a.now, b.now)) }
         ensures range { IfOk result (λ i. i < length self.new.formula) }
         ensures grows { Grows self.old self.new }
     {
-        let f = match relation {
-            Relation::AtLeast | Relation::Above => self.difference(alloc, b, a, at)?,
-            Relation::Equal | Relation::AtMost | Relation::Below => {
-                self.difference(alloc, a, b, at)?
-            }
-        };
-        self.compared(alloc, at, relation, &f)
+        let side = united(alloc, a.side.as_slice(), b.side.as_slice())?;
+        let i = self.compare_forms(alloc, relation, &a.form, &b.form, at)?;
+        self.close(alloc, i, side.as_slice(), at)
     }
 
-    /// That two forms differ.
+    /// That two terms differ.
     fn different(
         &mut self,
         alloc: Global,
         at: Position,
-        a: &Form,
-        b: &Form,
+        a: &Term,
+        b: &Term,
     ) -> Result<u32, ReadRefusal>
-        requires a { IsFormOver self.old.given a.now }
-        requires b { IsFormOver self.old.given b.now }
+        requires a { IsTermIn self.old a.now }
+        requires b { IsTermIn self.old b.now }
         ensures gives { Gives (λ i. i) result self.old self.new (different at (a.now, b.now)) }
         ensures range { IfOk result (λ i. i < length self.new.formula) }
         ensures grows { Grows self.old self.new }
@@ -151,7 +76,7 @@ impl Elaborator {
     }
 
     /// The node at the end.
-    fn closed(
+    fn joined(
         &mut self,
         alloc: Global,
         at: Position,
@@ -175,12 +100,12 @@ impl Elaborator {
         at: Position,
         so_far: Option<u32>,
         relation: Relation,
-        a: &Form,
-        b: &Form,
+        a: &Term,
+        b: &Term,
     ) -> Result<u32, ReadRefusal>
         requires so_far { IfSome so_far (λ i. i < length self.old.formula) }
-        requires a { IsFormOver self.old.given a.now }
-        requires b { IsFormOver self.old.given b.now }
+        requires a { IsTermIn self.old a.now }
+        requires b { IsTermIn self.old b.now }
         ensures gives { Gives (λ i. i) result self.old self.new (next (compare at relation) at so_far (a.now, b.now)) }
         ensures range { IfOk result (λ i. i < length self.new.formula) }
         ensures grows { Grows self.old self.new }
@@ -215,12 +140,12 @@ impl Elaborator {
         alloc: Global,
         at: Position,
         so_far: Option<u32>,
-        a: &Form,
-        b: &Form,
+        a: &Term,
+        b: &Term,
     ) -> Result<u32, ReadRefusal>
         requires so_far { IfSome so_far (λ i. i < length self.old.formula) }
-        requires a { IsFormOver self.old.given a.now }
-        requires b { IsFormOver self.old.given b.now }
+        requires a { IsTermIn self.old a.now }
+        requires b { IsTermIn self.old b.now }
         ensures gives { Gives (λ i. i) result self.old self.new (next (different at) at so_far (a.now, b.now)) }
         ensures range { IfOk result (λ i. i < length self.new.formula) }
         ensures grows { Grows self.old self.new }
@@ -249,32 +174,32 @@ impl Elaborator {
         self.with_next(alloc, at, so_far, j)
     }
 
-    /// That neighbouring forms compare.
+    /// That neighbouring terms compare.
     #[tactic(auto, using(crate::proofs::Ranges::ranges, crate::proofs::Chaining::conjunction_run))]
     pub(crate) fn compare_neighbours(
         &mut self,
         alloc: Global,
         at: Position,
         relation: Relation,
-        first: &Form,
-        rest: &[&Form],
+        first: &Term,
+        rest: &[&Term],
     ) -> Result<u32, ReadRefusal>
-        requires first { IsFormOver self.old.given first.now }
-        requires rest { All (λ f. IsFormOver self.old.given f.now) rest.now }
-        ensures gives { Gives (λ i. i) result self.old self.new (conjunction (compare at relation) at (neighbours first.now (map (λ f. f.now) rest.now))) }
+        requires first { IsTermIn self.old first.now }
+        requires rest { All (λ t. IsTermIn self.old t.now) rest.now }
+        ensures gives { Gives (λ i. i) result self.old self.new (conjunction (compare at relation) at (neighbours first.now (map (λ t. t.now) rest.now))) }
         ensures range { IfOk result (λ i. i < length self.new.formula) }
         ensures grows { Grows self.old self.new }
     {
         let mut so_far = None;
         let mut before = first;
-        for f in rest {
-            match self.compare_next(alloc, at, so_far, relation, before, *f) {
+        for t in rest {
+            match self.compare_next(alloc, at, so_far, relation, before, *t) {
                 Ok(next) => so_far = Some(next),
                 Err(refusal) => return Err(refusal),
             }
-            before = *f;
+            before = *t;
         }
-        self.closed(alloc, at, so_far)
+        self.joined(alloc, at, so_far)
     }
 
     /// That neighbouring nodes are equivalent.
@@ -301,29 +226,29 @@ impl Elaborator {
             }
             before = *i;
         }
-        self.closed(alloc, at, so_far)
+        self.joined(alloc, at, so_far)
     }
 
-    /// That a form differs from each of the later ones.
+    /// That a term differs from each of the later ones.
     #[tactic(auto, using(crate::proofs::Ranges::ranges))]
     fn different_from_all(
         &mut self,
         alloc: Global,
         at: Position,
         so_far: Option<u32>,
-        first: &Form,
-        rest: &[&Form],
+        first: &Term,
+        rest: &[&Term],
     ) -> Result<Option<u32>, ReadRefusal>
         requires so_far { IfSome so_far (λ i. i < length self.old.formula) }
-        requires first { IsFormOver self.old.given first.now }
-        requires rest { All (λ f. IsFormOver self.old.given f.now) rest.now }
-        ensures gives { Gives (λ i. i) result self.old self.new (run (different at) at so_far (map (λ g. (first.now, g)) (map (λ f. f.now) rest.now))) }
+        requires first { IsTermIn self.old first.now }
+        requires rest { All (λ t. IsTermIn self.old t.now) rest.now }
+        ensures gives { Gives (λ i. i) result self.old self.new (run (different at) at so_far (map (λ g. (first.now, g)) (map (λ t. t.now) rest.now))) }
         ensures range { IfOk result (λ r. IfSome r (λ i. i < length self.new.formula)) }
         ensures grows { Grows self.old self.new }
     {
         let mut so_far = so_far;
-        for f in rest {
-            match self.different_next(alloc, at, so_far, first, *f) {
+        for t in rest {
+            match self.different_next(alloc, at, so_far, first, *t) {
                 Ok(next) => so_far = Some(next),
                 Err(refusal) => return Err(refusal),
             }
@@ -331,49 +256,49 @@ impl Elaborator {
         Ok(so_far)
     }
 
-    /// That the form at a place differs from each of the later ones.
+    /// That the term at a place differs from each of the later ones.
     #[tactic(auto, using(crate::proofs::Rows::heads_at))]
     fn different_row(
         &mut self,
         alloc: Global,
         at: Position,
         so_far: Option<u32>,
-        forms: &[&Form],
+        terms: &[&Term],
         place: usize,
     ) -> Result<Option<u32>, ReadRefusal>
         requires so_far { IfSome so_far (λ i. i < length self.old.formula) }
-        requires forms { All (λ f. IsFormOver self.old.given f.now) forms.now }
-        requires place { place < length forms.now }
-        ensures gives { Gives (λ i. i) result self.old self.new (run (different at) at so_far (heads (map (λ f. f.now) (drop place forms.now)))) }
+        requires terms { All (λ t. IsTermIn self.old t.now) terms.now }
+        requires place { place < length terms.now }
+        ensures gives { Gives (λ i. i) result self.old self.new (run (different at) at so_far (heads (map (λ t. t.now) (drop place terms.now)))) }
         ensures range { IfOk result (λ r. IfSome r (λ i. i < length self.new.formula)) }
         ensures grows { Grows self.old self.new }
     {
-        let first = forms[place];
-        let rest = &forms[place + 1..];
+        let first = terms[place];
+        let rest = &terms[place + 1..];
         self.different_from_all(alloc, at, so_far, first, rest)
     }
 
-    /// That all forms differ.
+    /// That all terms differ.
     #[tactic(auto, using(crate::proofs::Ranges::ranges, crate::proofs::Chaining::conjunction_run))]
     pub(crate) fn all_different(
         &mut self,
         alloc: Global,
         at: Position,
-        forms: &[&Form],
+        terms: &[&Term],
     ) -> Result<u32, ReadRefusal>
-        requires { All (λ f. IsFormOver self.old.given f.now) forms.now }
-        ensures gives { Gives (λ i. i) result self.old self.new (conjunction (different at) at (later_pairs (map (λ f. f.now) forms.now))) }
+        requires { All (λ t. IsTermIn self.old t.now) terms.now }
+        ensures gives { Gives (λ i. i) result self.old self.new (conjunction (different at) at (later_pairs (map (λ t. t.now) terms.now))) }
         ensures range { IfOk result (λ i. i < length self.new.formula) }
         ensures grows { Grows self.old self.new }
     {
         let mut so_far = None;
-        for i in 0..forms.len() {
-            match self.different_row(alloc, at, so_far, forms, i) {
+        for i in 0..terms.len() {
+            match self.different_row(alloc, at, so_far, terms, i) {
                 Ok(next) => so_far = next,
                 Err(refusal) => return Err(refusal),
             }
         }
-        self.closed(alloc, at, so_far)
+        self.joined(alloc, at, so_far)
     }
 
     /// That a node is not equivalent to any of the later ones.
@@ -445,6 +370,6 @@ impl Elaborator {
                 Err(refusal) => return Err(refusal),
             }
         }
-        self.closed(alloc, at, so_far)
+        self.joined(alloc, at, so_far)
     }
 }
