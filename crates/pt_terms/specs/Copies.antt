@@ -1,6 +1,6 @@
 -- Applications of definitions as loops go: marks of the nodes to copy, and the new numbers of all nodes so far in a list.
-use Rattle.std.specs.Prelude.{ℕ, ◌+◌, ◌<◌, Bool, true, false, List, [], ◌∷◌, ◌++◌, length, map, slice_index_or, slice_set}
-use Rattle.std.specs.List.{range_with_len}
+use Rattle.std.specs.Prelude.{ℕ, ◌<◌, Bool, true, false, List, [], ◌∷◌, ◌++◌, length, map, slice_index_or, slice_set}
+use Rattle.std.specs.List.{list_any, range_with_len}
 use Rattle.pt_formula.specs.declared.node.Node.{Node}
 use Rattle.pt_formula.specs.declared.node.Node.TheVariants as node
 use Rattle.pt_formula.specs.declared.node.Position.{Position}
@@ -9,43 +9,43 @@ use Rattle.pt_formula.specs.Forms.{Monomial}
 use Rattle.pt_formula.specs.Sums.{form_sum, form_scale}
 use Rattle.pt_formula.specs.Formulas.{node_at, HasTerms}
 use Rattle.pt_terms.specs.Elaboration.{Elab, give, ◌>>=◌, make, make_exists, form}
-use Rattle.pt_terms.specs.Theory.{replacing, copied_atom, truth_for, reaches_within}
+use Rattle.pt_terms.specs.Theory.{replacing, copied_atom, copy_of, truth_for, reaches_within, above}
 use Rattle.pt_terms.specs.declared.meaning.Meaning.{Meaning}
 use Rattle.pt_terms.specs.declared.meaning.Sort.{Sort}
 use Rattle.pt_terms.specs.Sorts.{IsSorted}
 
 -- one term with the form in the place of its variable, added to f
-abbrev pub added : Position → List (ℕ × Meaning) → Form → Monomial → Elab Form
-added p rs f t = form (form_scale t.1 (replacing rs t.0)) p >>= λ g. form (form_sum f g) p
+abbrev pub added : Position → List (ℕ × Meaning) → List (ℕ × ℕ) → Form → Monomial → Elab Form
+added p rs numbers f t = form (form_scale t.1 (replacing rs numbers t.0)) p >>= λ g. form (form_sum f g) p
 
 -- the new number of a node; a node past the end stands for itself
 abbrev pub new_number : List ℕ → ℕ → ℕ
 new_number ns i = slice_index_or ns i i
 
 -- the copy of a node whose children have new numbers
-abbrev pub copied_node : Position → List (ℕ × Meaning) → (ℕ → ℕ) → Node → Elab ℕ
-copied_node p rs new (node.Atom kind terms c) = copied_atom p rs kind terms c (truth_for rs terms)
-copied_node p rs new (node.Not a) = make (node.Not (new a)) p
-copied_node p rs new (node.And a b) = make (node.And (new a) (new b)) p
-copied_node p rs new (node.Or a b) = make (node.Or (new a) (new b)) p
-copied_node p rs new (node.Iff a b) = make (node.Iff (new a) (new b)) p
-copied_node p rs new (node.Xor a b) = make (node.Xor (new a) (new b)) p
-copied_node p rs new (node.Exists v a) = make_exists v (new a) p
-copied_node p rs new node.True = make node.True p
-copied_node p rs new node.False = make node.False p
+abbrev pub copied_node : Position → List (ℕ × Meaning) → List (ℕ × ℕ) → (ℕ → ℕ) → Node → Elab ℕ
+copied_node p rs numbers new (node.Atom kind terms c) = copied_atom p rs numbers kind terms c (truth_for rs terms)
+copied_node p rs numbers new (node.Not a) = make (node.Not (new a)) p
+copied_node p rs numbers new (node.And a b) = make (node.And (new a) (new b)) p
+copied_node p rs numbers new (node.Or a b) = make (node.Or (new a) (new b)) p
+copied_node p rs numbers new (node.Iff a b) = make (node.Iff (new a) (new b)) p
+copied_node p rs numbers new (node.Xor a b) = make (node.Xor (new a) (new b)) p
+copied_node p rs numbers new (node.Exists v a) = make_exists (copy_of numbers v) (new a) p
+copied_node p rs numbers new node.True = make node.True p
+copied_node p rs numbers new node.False = make node.False p
 
 -- the new number of the next node: a marked one is copied, another stands for itself
-abbrev pub next_number : Position → List (ℕ × Meaning) → List (Node × Position) → List ℕ → Bool → Elab ℕ
-next_number p rs f ns true = copied_node p rs (new_number ns) (node_at f (length ns))
-next_number p rs f ns false = give (length ns)
+abbrev pub next_number : Position → List (ℕ × Meaning) → List (ℕ × ℕ) → List (Node × Position) → List ℕ → Bool → Elab ℕ
+next_number p rs numbers f ns true = copied_node p rs numbers (new_number ns) (node_at f (length ns))
+next_number p rs numbers f ns false = give (length ns)
 
-abbrev pub numbered : Position → List (ℕ × Meaning) → List (Node × Position) → List ℕ → List Bool → Elab (List ℕ)
-numbered p rs f ns [] = give ns
-numbered p rs f ns (mark ∷ marks) = next_number p rs f ns mark >>= λ j. numbered p rs f (ns ++ j ∷ []) marks
+abbrev pub numbered : Position → List (ℕ × Meaning) → List (ℕ × ℕ) → List (Node × Position) → List ℕ → List Bool → Elab (List ℕ)
+numbered p rs numbers f ns [] = give ns
+numbered p rs numbers f ns (mark ∷ marks) = next_number p rs numbers f ns mark >>= λ j. numbered p rs numbers f (ns ++ j ∷ []) marks
 
--- the marks of the nodes that a node reaches
-abbrev pub marks_of : List (Node × Position) → ℕ → List Bool
-marks_of f a = map (reaches_within a f a) (range_with_len 0 (a + 1))
+-- the marks of the nodes that some nodes reach
+abbrev pub marks_of : List (Node × Position) → List ℕ → List Bool
+marks_of f roots = map (λ d. list_any (λ a. reaches_within a f a d) roots) (range_with_len 0 (above roots))
 
 -- the marks with those of some nodes set
 abbrev pub marked_all : List Bool → List ℕ → List Bool

@@ -71,3 +71,7 @@ pub record IsEnvIn (w : Work) (env : Env) : Type 0 where
 -- arguments that replace variables are in the range of the work, and each has its variable's sort
 abbrev pub AreReplacing : Work → List (ℕ × Meaning) → Type 0
 AreReplacing w rs = AllByRecursion (λ (r : ℕ × Meaning). IsMeaningIn w r.1 × HasSort w.given r.0 (sort_of r.1)) rs
+
+-- variables of sort Int have new numbers of sort Int
+abbrev pub AreNumbers : Work → List (ℕ × ℕ) → Type 0
+AreNumbers w numbers = AllByRecursion (λ (n : ℕ × ℕ). HasSort w.given n.0 sort.Int × HasSort w.given n.1 sort.Int) numbers

@@ -2,7 +2,7 @@
 ghost use Rattle.std.specs.Prelude.{◌≡◌};
 ghost use Rattle.pt_terms.specs.Sides.{beside};
 ghost use Rattle.pt_terms.specs.declared.meaning.Meaning.TheVariants.{Int};
-use crate::arithmetic::{Argument, copy_of_form};
+use crate::arithmetic::{Argument, copy_of_form, copy_of_term};
 use crate::elaborator::Elaborator;
 use crate::meaning::Meaning;
 use crate::refusals::refused;
@@ -31,7 +31,7 @@ impl Elaborator {
     ghost use Rattle.pt_terms.specs.Chains.{joined};
     ghost use Rattle.pt_terms.specs.Elaboration.{give};
     ghost use Rattle.pt_terms.specs.Gives.{Gives, Grows};
-    ghost use Rattle.pt_terms.specs.Sound.{IsFormOver, IsMeaningIn};
+    ghost use Rattle.pt_terms.specs.Sound.{IsFormOver, IsTermIn, IsMeaningIn};
 
     fn apply_not(
         &mut self,
@@ -250,6 +250,15 @@ impl Elaborator {
         ensures range { IfOk result (IsFormOver self.now.given) }
     {
         Ok(copy_of_form(alloc, f)?)
+    }
+
+    /// The same term once more.
+    pub(crate) fn copied_term(&self, alloc: Global, t: &Term) -> Result<Term, ReadRefusal>
+        requires { IsTermIn self.now t.now }
+        ensures gives { Gives (λ u. u) result self.now self.now (give t.now) }
+        ensures range { IfOk result (IsTermIn self.now) }
+    {
+        Ok(copy_of_term(alloc, t)?)
     }
 
     fn apply_sum(

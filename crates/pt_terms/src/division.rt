@@ -1,6 +1,5 @@
 // Terms that stand for quotients, remainders, absolute values and choices.
-ghost use Rattle.std.specs.Prelude.{◌≡◌, ◌≢◌, ◌^◌, ◌<ℤ◌, ◌≤ℤ◌, pos, neg_ℤ, unsigned_abs};
-ghost use Rattle.std.specs.Int.{int_div_euclid, int_rem_euclid};
+ghost use Rattle.std.specs.Prelude.{◌≡◌, IfOk};
 
 use crate::arithmetic::{Argument, form_of_number, form_of_variable};
 use crate::elaborator::Elaborator;
@@ -20,10 +19,9 @@ fn copied(alloc: Global, side: &[Definition]) -> Result<Vec<Definition>, ReadRef
 }
 
 impl Elaborator {
-    ghost use Rattle.std.specs.Prelude.{◌≡◌, ◌≢◌, ◌<◌, length, map, pos, IfOk, All};
+    ghost use Rattle.std.specs.Prelude.{◌≡◌, ◌≢◌, ◌<◌, [], ◌∷◌, ◌++◌, length, map, pos, IfOk, All};
     ghost use Rattle.std.specs.List.{AllByRecursion};
-    ghost use Rattle.pt_fresh.specs.Builders as builders;
-    ghost use Rattle.pt_terms.specs.Elaboration.{form, constant_form, making};
+    ghost use Rattle.pt_terms.specs.Elaboration.{give, ◌>>=◌, form, constant_form, variable_form};
     ghost use Rattle.pt_terms.specs.Theory.{Argument, apply, divisor, quotient, quotients, divided, remainder, magnitude, chosen_term};
     ghost use Rattle.pt_grammar.specs.declared.words.Operator.TheVariants as symbol;
     ghost use Rattle.pt_terms.specs.Gives.{Gives, Grows};
@@ -50,7 +48,11 @@ impl Elaborator {
         at: Position,
         side: &[Definition],
         number: i128,
-    ) -> Result<Term, ReadRefusal> {
+    ) -> Result<Term, ReadRefusal>
+        requires { IsSideIn self.now side.now }
+        ensures gives { Gives (λ u. u) result self.now self.now (form (constant_form number) at >>= λ f. give (beside side.now f)) }
+        ensures range { IfOk result (IsTermIn self.now) }
+    {
         let form = self.constant(alloc, at, number)?;
         let side = copied(alloc, side)?;
         Ok(Term {
@@ -66,7 +68,14 @@ impl Elaborator {
         side: Vec<Definition>,
         v: u32,
         definition: u32,
-    ) -> Result<Term, ReadRefusal> {
+    ) -> Result<Term, ReadRefusal>
+        requires side { IsSideIn self.now side.items }
+        requires later { AllByRecursion (λ (x : DefinitionValue). x.0 < v) side.items }
+        requires v { HasSort self.now.given v sort.Int }
+        requires definition { definition < length self.now.formula }
+        ensures gives { Gives (λ u. u) result self.now self.now (give (beside (side.items ++ (v, definition) ∷ []) (variable_form v))) }
+        ensures range { IfOk result (IsTermIn self.now) }
+    {
         let mut side = side;
         side.push((v, definition))?;
         let form = form_of_variable(alloc, v)?;

@@ -1,7 +1,7 @@
 // What terms see.
 ghost use Rattle.std.specs.Prelude.{◌≡◌, ◌≤◌, ◌∷◌, [], length, IfOk, OnOk};
 ghost use Rattle.pt_terms.specs.Names.{Env, bind, look_up, head_use};
-ghost use Rattle.pt_terms.specs.Layers.{plain_bound};
+ghost use Rattle.pt_terms.specs.Layers.{plain_found, IsPlainIn};
 ghost use Rattle.pt_terms.specs.Sorts.{HaveSorts};
 ghost use Rattle.pt_terms.specs.Environment.{outermost, inside};
 ghost use Rattle.pt_terms.specs.Elaboration.{Work};
@@ -14,9 +14,9 @@ ghost use Rattle.pt_terms.specs.Names.{use_of};
 ghost use Rattle.pt_terms.specs.Symbols.{shown_use};
 ghost use Rattle.pt_terms.specs.Sound.{IsUseIn};
 
-use crate::arithmetic::{copy_of_bound, copy_of_meaning};
+use crate::arithmetic::copy_of_meaning;
 use crate::bindings::Bindings;
-use crate::meaning::{Bound, Meaning, Sort};
+use crate::meaning::{Bound, Meaning, Plain, Sort};
 use crate::refusals::refused;
 use crate::symbols::{Symbols, Use};
 use pt_digits::NoMemory;
@@ -109,15 +109,15 @@ impl<'s> Environment<'s> {
         }
     }
 
-    /// What a name stands for as a term of its own: a variable, or what a term stands for.
+    /// What a name stands for as a term of its own.
     pub(crate) fn plain(
         &self,
         alloc: Global,
         name: &[u8],
         at: Position,
-    ) -> Result<Bound, ReadRefusal>
-        ensures says { Says (λ b. b) result (plain_bound at (look_up self.now name.now)) }
-        ensures range { (w : Work) → IsEnvIn w self.now → IfOk result (IsBoundIn w) }
+    ) -> Result<Plain, ReadRefusal>
+        ensures says { Says (λ b. b) result (plain_found at (look_up self.now name.now)) }
+        ensures range { (w : Work) → IsEnvIn w self.now → IfOk result (IsPlainIn w) }
     {
         match self.bound.find(name) {
             Some(bound) => copy_of(alloc, bound),
@@ -126,26 +126,32 @@ impl<'s> Environment<'s> {
     }
 }
 
-/// The same once more.
-fn copy_of(alloc: Global, bound: &Bound) -> Result<Bound, ReadRefusal>
-    ensures says { (p : PositionValue) → Says (λ b. b) result (plain_bound p (use_of (Some bound.now) None)) }
-    ensures same { IfOk result (λ b. b ≡ bound.now) }
+/// What a bound name stands for as a term of its own.
+fn copy_of(alloc: Global, bound: &Bound) -> Result<Plain, ReadRefusal>
+    ensures says { (p : PositionValue) → Says (λ b. b) result (plain_found p (use_of (Some bound.now) None)) }
+    ensures range { (w : Work) → IsBoundIn w bound.now → IfOk result (IsPlainIn w) }
 {
-    Ok(copy_of_bound(alloc, bound)?)
+    match bound {
+        Bound::Variable(v, sort) => Ok(Plain::Variable(*v, *sort)),
+        Bound::Term(meaning) => {
+            let copy = copy_of_meaning(alloc, meaning)?;
+            Ok(Plain::Standing(copy))
+        }
+    }
 }
 
 /// What a live name stands for as a term of its own.
-fn live_use(alloc: Global, found: Option<&Use>, at: Position) -> Result<Bound, ReadRefusal>
-    ensures says { Says (λ b. b) result (plain_bound at (option_map (λ u. shown_use u.now) found.entry)) }
-    ensures range { (w : Work) → IfSome found.entry (λ u. IsUseIn w (shown_use u.now)) → IfOk result (IsBoundIn w) }
+fn live_use(alloc: Global, found: Option<&Use>, at: Position) -> Result<Plain, ReadRefusal>
+    ensures says { Says (λ b. b) result (plain_found at (option_map (λ u. shown_use u.now) found.entry)) }
+    ensures range { (w : Work) → IfSome found.entry (λ u. IsUseIn w (shown_use u.now)) → IfOk result (IsPlainIn w) }
 {
     match found {
         None => Err(refused(ReadKind::Unknown, at)),
-        Some(Use::Constant(v, sort)) => Ok(Bound::Variable(*v, *sort)),
+        Some(Use::Constant(v, sort)) => Ok(Plain::Variable(*v, *sort)),
         Some(Use::Definition(parameters, _, meaning)) => {
             if parameters.is_empty() {
                 let copy = copy_of_meaning(alloc, meaning)?;
-                Ok(Bound::Term(copy))
+                Ok(Plain::Definition(copy))
             } else {
                 Err(refused(ReadKind::Sort, at))
             }

@@ -1,8 +1,8 @@
 // Terms that are no lists, and the moduli of heads.
-use crate::arithmetic::{form_of_number, form_of_variable};
+use crate::arithmetic::{form_of_number, form_of_variable, plain};
 use crate::elaborator::Elaborator;
 use crate::environment::Environment;
-use crate::meaning::{Bound, Meaning, Sort};
+use crate::meaning::{Meaning, Plain, Sort};
 use crate::numerals::number_at;
 use crate::refusals::refused;
 use pt_grammar::exprs::{numeral, place, symbol};
@@ -13,9 +13,9 @@ use std::alloc::Global;
 impl Elaborator {
     ghost use Rattle.std.specs.Prelude.{◌<◌, ◌^◌, IfOk};
     ghost use Rattle.pt_terms.specs.Terms.{leaf_term, modulus, indexed_head};
-    ghost use Rattle.pt_terms.specs.Layers.{symbol_term, bound_term};
+    ghost use Rattle.pt_terms.specs.Layers.{symbol_term, found_term, IsPlainIn};
     ghost use Rattle.pt_terms.specs.Gives.{Gives, Grows};
-    ghost use Rattle.pt_terms.specs.Sound.{IsMeaningIn, IsBoundIn, IsEnvIn};
+    ghost use Rattle.pt_terms.specs.Sound.{IsMeaningIn, IsEnvIn};
 
     /// A term that is no list.
     pub(crate) fn leaf_term(
@@ -33,7 +33,7 @@ impl Elaborator {
         match leaf {
             Leaf::Numeral(digits) => {
                 let n = number_at(at, digits.as_slice())?;
-                Ok(Meaning::Int(form_of_number(alloc, n as i64)))
+                Ok(Meaning::Int(plain(alloc, form_of_number(alloc, n as i64))))
             }
             Leaf::Symbol(name) => self.symbol_term(alloc, env, at, name.as_slice()),
             Leaf::Constant | Leaf::Text(_) => Err(refused(ReadKind::Unsupported, at)),
@@ -63,33 +63,34 @@ impl Elaborator {
             return Ok(Meaning::Bool(n));
         }
         match env.plain(alloc, name, at) {
-            Ok(bound) => self.bound_term(alloc, at, bound),
+            Ok(found) => self.found_term(alloc, at, found),
             Err(refusal) => Err(refusal),
         }
     }
 
-    /// What a name is bound to, as a term of its own: a variable of sort Bool makes a node.
-    fn bound_term(
+    /// What a name stands for as a term of its own: a variable of sort Bool makes a node, and the side of a definition is copied.
+    fn found_term(
         &mut self,
         alloc: Global,
         at: Position,
-        bound: Bound,
+        found: Plain,
     ) -> Result<Meaning, ReadRefusal>
-        requires { IsBoundIn self.old bound }
-        ensures gives { Gives (λ m. m) result self.old self.new (bound_term at bound) }
+        requires { IsPlainIn self.old found }
+        ensures gives { Gives (λ m. m) result self.old self.new (found_term at found) }
         ensures range { IfOk result (IsMeaningIn self.new) }
         ensures grows { Grows self.old self.new }
     {
-        match bound {
-            Bound::Variable(v, Sort::Int) => {
+        match found {
+            Plain::Variable(v, Sort::Int) => {
                 let form = form_of_variable(alloc, v)?;
-                Ok(Meaning::Int(form))
+                Ok(Meaning::Int(plain(alloc, form)))
             }
-            Bound::Variable(v, Sort::Bool) => {
+            Plain::Variable(v, Sort::Bool) => {
                 let i = self.truth_atom(alloc, v, at)?;
                 Ok(Meaning::Bool(i))
             }
-            Bound::Term(meaning) => Ok(meaning),
+            Plain::Standing(meaning) => Ok(meaning),
+            Plain::Definition(meaning) => self.used(alloc, at, meaning),
         }
     }
 

@@ -9,6 +9,7 @@ pub mod bytes;
 mod connectives;
 mod copying;
 pub mod definitions;
+mod division;
 pub mod elaborator;
 pub mod environment;
 #[cfg(test)]

@@ -1,9 +1,10 @@
 // The nodes that a node reaches.
-ghost use Rattle.std.specs.Prelude.{◌≡◌, ◌<◌, ◌^◌, ℕ, length, IfOk, IfErr, replicate, false};
+ghost use Rattle.std.specs.Prelude.{◌≡◌, ◌<◌, ◌^◌, ℕ, length, IfOk, IfErr, All, replicate, false};
 ghost use Rattle.std.specs.List.{AllByRecursion};
 ghost use Rattle.pt_formula.specs.Formulas.{children};
 ghost use Rattle.pt_syntax.specs.Rest.{no_memory};
 ghost use Rattle.pt_terms.specs.Copies.{marked_all};
+ghost use Rattle.pt_terms.specs.Theory.{above as above_all};
 
 use crate::elaborator::Elaborator;
 use pt_formula::Node;
@@ -25,6 +26,30 @@ fn mark_children(marks: &mut Vec<bool>, node: &Node)
     }
 }
 
+/// One more than the greatest of some nodes.
+fn above(roots: &[u32]) -> u32
+    requires { All (λ i. i < 65536) roots.now }
+    ensures { result ≡ above_all roots.now }
+{
+    let mut count = 0;
+    for i in roots {
+        if *i >= count {
+            count = *i + 1;
+        }
+    }
+    count
+}
+
+/// Marks some nodes.
+fn mark_all(marks: &mut Vec<bool>, nodes: &[u32])
+    requires { All (λ i. i < length marks.old.items) nodes.now }
+    ensures { marks.new.items ≡ marked_all marks.old.items nodes.now }
+{
+    for i in nodes {
+        marks[*i as usize] = true;
+    }
+}
+
 /// No mark.
 fn no_marks(alloc: Global, count: usize) -> Result<Vec<bool>, ReadRefusal>
     ensures ok { IfOk result (λ v. v.items ≡ replicate count false) }
@@ -34,21 +59,22 @@ fn no_marks(alloc: Global, count: usize) -> Result<Vec<bool>, ReadRefusal>
 }
 
 impl Elaborator {
-    ghost use Rattle.std.specs.Prelude.{◌≡◌, ◌<◌, length, IfOk, IfErr};
+    ghost use Rattle.std.specs.Prelude.{◌≡◌, ◌<◌, length, IfOk, IfErr, All};
     ghost use Rattle.pt_syntax.specs.Rest.{no_memory};
     ghost use Rattle.pt_terms.specs.Copies.{marks_of};
 
-    /// The marks of the nodes that a node reaches, for each node up to it. Linear.
-    pub(crate) fn marks(&self, alloc: Global, body: u32) -> Result<Vec<bool>, ReadRefusal>
-        requires { body < length self.now.formula }
-        ensures ok { IfOk result (λ v. v.items ≡ marks_of self.now.formula body) }
+    /// The marks of the nodes that some nodes reach, for each node up to the greatest of them. Linear in its number.
+    pub(crate) fn marks(&self, alloc: Global, roots: &[u32]) -> Result<Vec<bool>, ReadRefusal>
+        requires { All (λ i. i < length self.now.formula) roots.now }
+        ensures ok { IfOk result (λ v. v.items ≡ marks_of self.now.formula roots.now) }
         ensures err { IfErr result (λ e. e ≡ no_memory) }
     {
         self.formula().is_formula();
-        let mut marks = no_marks(alloc, body as usize + 1)?;
-        marks[body as usize] = true;
-        for k in 0..body + 1 {
-            let i = body - k;
+        let count = above(roots);
+        let mut marks = no_marks(alloc, count as usize)?;
+        mark_all(&mut marks, roots);
+        for k in 0..count {
+            let i = count - 1 - k;
             if marks[i as usize] {
                 mark_children(&mut marks, self.node(i));
             }

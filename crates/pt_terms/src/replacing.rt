@@ -1,6 +1,6 @@
 // Arguments in the places of parameters.
 ghost use Rattle.std.specs.Prelude.{◌≡◌, option_map, map};
-ghost use Rattle.pt_terms.specs.Theory.{replacement};
+ghost use Rattle.pt_terms.specs.Theory.{replacement, copy_of};
 
 use crate::arithmetic::form_of_variable;
 use crate::elaborator::Elaborator;
@@ -24,6 +24,18 @@ pub(crate) fn replacement<'a>(replacements: &[Replacement<'a>], v: u32) -> Optio
     None
 }
 
+/// The new number of a variable, if it has one, and else its own. Linear in the numbers.
+pub(crate) fn number_of(numbers: &[(u32, u32)], v: u32) -> u32
+    ensures { result ≡ copy_of numbers.now v }
+{
+    for n in numbers {
+        if n.0 == v {
+            return n.1;
+        }
+    }
+    v
+}
+
 /// Steps that only look.
 impl Elaborator {
     ghost use Rattle.std.specs.Prelude.{◌≡◌, IfOk, map};
@@ -32,7 +44,7 @@ impl Elaborator {
     ghost use Rattle.pt_terms.specs.Copies.{added};
     ghost use Rattle.pt_terms.specs.Gives.{Gives};
     ghost use Rattle.pt_terms.specs.Sorts.{HasSort, AreIntegers};
-    ghost use Rattle.pt_terms.specs.Sound.{IsFormOver, AreReplacing};
+    ghost use Rattle.pt_terms.specs.Sound.{IsFormOver, AreReplacing, AreNumbers};
 
     /// A term with the form in the place of its variable, added to a form.
     fn added(
@@ -40,24 +52,26 @@ impl Elaborator {
         alloc: Global,
         at: Position,
         replacements: &[Replacement<'_>],
+        numbers: &[(u32, u32)],
         so_far: &Form,
         term: (u32, i64),
     ) -> Result<Form, ReadRefusal>
         requires replacements { AreReplacing self.now (map (λ r. (r.0, r.1.now)) replacements.now) }
+        requires numbers { AreNumbers self.now numbers.now }
         requires so_far { IsFormOver self.now.given so_far.now }
         requires term { HasSort self.now.given term.0 sort.Int }
-        ensures gives { Gives (λ f. f) result self.now self.now (added at (map (λ r. (r.0, r.1.now)) replacements.now) so_far.now term) }
+        ensures gives { Gives (λ f. f) result self.now self.now (added at (map (λ r. (r.0, r.1.now)) replacements.now) numbers.now so_far.now term) }
         ensures range { IfOk result (IsFormOver self.now.given) }
     {
         let (v, by) = term;
         match replacement(replacements, v) {
-            Some(Meaning::Int(f)) => {
-                let g = self.scale(alloc, by, f, at)?;
+            Some(Meaning::Int(t)) => {
+                let g = self.scale(alloc, by, &t.form, at)?;
                 self.sum(alloc, so_far, &g, at)
             }
             Some(Meaning::Bool(_)) => unreachable!(),
             None => {
-                let f = form_of_variable(alloc, v)?;
+                let f = form_of_variable(alloc, number_of(numbers, v))?;
                 let g = self.scale(alloc, by, &f, at)?;
                 self.sum(alloc, so_far, &g, at)
             }
@@ -70,18 +84,20 @@ impl Elaborator {
         alloc: Global,
         at: Position,
         replacements: &[Replacement<'_>],
+        numbers: &[(u32, u32)],
         first: Form,
         terms: &[(u32, i64)],
     ) -> Result<Form, ReadRefusal>
         requires replacements { AreReplacing self.now (map (λ r. (r.0, r.1.now)) replacements.now) }
+        requires numbers { AreNumbers self.now numbers.now }
         requires first { IsFormOver self.now.given first }
         requires terms { AreIntegers self.now.given terms.now }
-        ensures gives { Gives (λ f. f) result self.now self.now (substituted at (map (λ r. (r.0, r.1.now)) replacements.now) first terms.now) }
+        ensures gives { Gives (λ f. f) result self.now self.now (substituted at (map (λ r. (r.0, r.1.now)) replacements.now) numbers.now first terms.now) }
         ensures range { IfOk result (IsFormOver self.now.given) }
     {
         let mut so_far = first;
         for t in terms {
-            match self.added(alloc, at, replacements, &so_far, *t) {
+            match self.added(alloc, at, replacements, numbers, &so_far, *t) {
                 Ok(next) => so_far = next,
                 Err(refusal) => return Err(refusal),
             }

@@ -1,5 +1,5 @@
 //! Live and bound names, numbers and nodes. Terms are tested where texts are read.
-use crate::arithmetic::{copy_of_meaning, form_of_variable};
+use crate::arithmetic::{copy_of_meaning, form_of_variable, plain};
 use crate::bindings::Bindings;
 use crate::elaborator::Elaborator;
 use crate::meaning::{Bound, Meaning, Sort};
@@ -33,12 +33,12 @@ fn bound_names(rt: HostRuntime) -> Result<(), Fail> {
     let mut bound = Bindings::new(rt.alloc());
     bound.push(rt.alloc(), b"x", Bound::Variable(3, Sort::Bool))?;
     let form = form_of_variable(rt.alloc(), 5)?;
-    let meaning = copy_of_meaning(rt.alloc(), &Meaning::Int(form))?;
+    let meaning = copy_of_meaning(rt.alloc(), &Meaning::Int(plain(rt.alloc(), form)))?;
     bound.push(rt.alloc(), b"x", Bound::Term(meaning))?;
     assert_eq!(&rt; bound.len(), 2);
     match bound.find(b"x") {
-        Some(Bound::Term(Meaning::Int(f))) => assert_eq!(&rt;
-            f.terms.as_slice(),
+        Some(Bound::Term(Meaning::Int(t))) => assert_eq!(&rt;
+            t.form.terms.as_slice(),
             [(5u32, 1i64)].as_slice()
         ),
         _ => panic!(&rt; "the innermost name is hidden"),
