@@ -10,7 +10,7 @@ use Rattle.pt_sets.specs.Languages.{Encodes}
 use Rattle.pt_sets.specs.Automata.{Automaton, run, next_of, output_of, language_of, SetOfState, IsAutomaton}
 use Rattle.pt_sets.specs.Costs.{SameResidual}
 use Rattle.pt_sets.proofs.Acceptance.{some-word}
-use Rattle.pt_sets.proofs.Stepping.{cell-within}
+use Rattle.pt_sets.proofs.Cells.{cell-within}
 use Rattle.pt_atoms.proofs.Forms.{form_after_is, same_form}
 use Rattle.pt_atoms.proofs.ParameterForms.{own_form, residual_form_at}
 use Rattle.pt_atoms.proofs.Signs.{sign_rule, word_in_set}

@@ -11,9 +11,11 @@ use Rattle.indexmap.specs.IndexSet.{insert_key, insert_all}
 use Rattle.pt_sets.specs.declared.Exit.{Exit}
 use Rattle.pt_sets.specs.declared.Edge.{Edge}
 use Rattle.pt_sets.specs.declared.Edge.TheVariants.{Near, Far}
-use Rattle.pt_sets.specs.Components.{Component, IsComponent, IsStronglyConnected, first_places, near_states, far_exits, exit_eq, edges_from, edge_number, states_in_order, exits_in_order}
+use Rattle.pt_sets.specs.Components.{Component, IsComponent, IsStronglyConnected, near_states, far_exits, exit_eq, edges_from, edge_number, states_in_order, exits_in_order}
+use Rattle.pt_sets.specs.Elements.{first_places}
 use Rattle.pt_sets.proofs.ReadBack.{exit_eq-same, exit_eq-refl}
-use Rattle.pt_sets.proofs.SearchOrder.{first_places-append, order-length}
+use Rattle.pt_sets.proofs.FirstPlaces.{first_places-append}
+use Rattle.pt_sets.proofs.SearchOrder.{order-length}
 use Rattle.pt_code.specs.Searching.{IsNumbered, visit_one, visit_all}
 use Rattle.pt_code.specs.Sides.{HasMet, numbers_of}
 use Rattle.pt_code.specs.Parts.{number_by, edge_row}

@@ -10,7 +10,8 @@ use Rattle.std.proofs.lemmas.List.Folds.{list_any-append}
 use Rattle.std.proofs.lemmas.List.FromFn.{length-range_with_len, get_or-range_with_len}
 use Rattle.std.proofs.Math.Seq.{drop-append_seam, get_or-append_seam}
 use Rattle.std.proofs.lemmas.List.{get_or_append_left}
-use Rattle.pt_sets.specs.Components.{Component, IsComponent, IsStronglyConnected, first_places, near_states, edges_from}
+use Rattle.pt_sets.specs.Components.{Component, IsComponent, IsStronglyConnected, near_states, edges_from}
+use Rattle.pt_sets.specs.Elements.{first_places}
 use Rattle.pt_sets.proofs.Mapping.{AllOf, AllOf-first_places}
 use Rattle.pt_sets.proofs.Members.{In-AllOf, In-get_or}
 use Rattle.pt_sets.proofs.Isomorphic.{near_states-within, edges_from-within}

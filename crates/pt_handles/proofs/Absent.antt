@@ -12,11 +12,11 @@ use Rattle.pt_sets.specs.Lists.{Lists, Home, find}
 use Rattle.pt_sets.specs.Known.{code_or_empty, language_in, Known}
 use Rattle.pt_sets.specs.Realizing.{Realizes}
 use Rattle.pt_sets.proofs.Acceptance.{same-sets}
-use Rattle.pt_sets.proofs.Longer.{SameLanguage-sym, SameLanguage-trans}
+use Rattle.pt_sets.proofs.Languages.{SameLanguage-sym, SameLanguage-trans, quotient-same}
 use Rattle.pt_sets.proofs.Paths.{run_in}
 use Rattle.pt_sets.proofs.Canonical.{at}
 use Rattle.pt_sets.proofs.Isomorphic.{IsLeastCode-isomorphic, IsLeastCode-unique}
-use Rattle.pt_sets.proofs.Realized.{quotient-same, isomorphism}
+use Rattle.pt_sets.proofs.Realized.{isomorphism}
 use Rattle.pt_sets.proofs.Running.{language-run, state-keeps}
 use Rattle.pt_sets.proofs.Lacking.{language_in-run-quotient, Known-run, Known-keeps, Realizes-place}
 use Rattle.pt_sets.proofs.Counting.{SameSet-sym, SameSet-trans}

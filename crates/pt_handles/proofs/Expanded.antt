@@ -12,7 +12,7 @@ use Rattle.pt_sets.specs.Languages.{SameLanguage, SetOf, quotient}
 use Rattle.pt_sets.specs.Automata.{Automaton, Reaches.here, next_of, language_of, SetOfState, IsAutomaton}
 use Rattle.pt_sets.specs.Lists.{Lists, Home}
 use Rattle.pt_sets.specs.Known.{next_in, language_in, IsBelow, IsStateBelow, KnowsPlace, Known}
-use Rattle.pt_sets.proofs.Longer.{SameLanguage-sym, SameLanguage-trans}
+use Rattle.pt_sets.proofs.Languages.{SameLanguage-sym, SameLanguage-trans}
 use Rattle.pt_sets.proofs.Running.{state-same}
 use Rattle.pt_sets.proofs.Lacking.{Known-keeps, language_in-run-quotient}
 use Rattle.pt_sets.proofs.Acceptance.{quotient-residual, same-language-same-set}

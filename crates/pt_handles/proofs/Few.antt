@@ -11,8 +11,7 @@ use Rattle.pt_sets.specs.Lists.{Lists, Home, find}
 use Rattle.pt_sets.specs.Known.{code_or_empty, language_in, IsBelow, IsStateBelow}
 use Rattle.pt_sets.specs.Realizing.{Realizes}
 use Rattle.pt_sets.proofs.Members.{In}
-use Rattle.pt_sets.proofs.Longer.{SameLanguage-sym, SameLanguage-trans}
-use Rattle.pt_sets.proofs.Realized.{quotient-same}
+use Rattle.pt_sets.proofs.Languages.{SameLanguage-sym, SameLanguage-trans, quotient-same}
 use Rattle.pt_sets.proofs.Pigeonhole.{injective-le}
 use Rattle.pt_sets.proofs.Lacking.{language_in-run-quotient}
 use Rattle.pt_sets.proofs.Paths.{run_in}

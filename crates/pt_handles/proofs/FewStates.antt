@@ -15,7 +15,8 @@ use Rattle.pt_sets.specs.Costs.{CostWithin, SameResidual}
 use Rattle.pt_sets.proofs.Members.{In}
 use Rattle.pt_sets.proofs.Numbered.{All-get}
 use Rattle.pt_sets.proofs.Matching.{Known-state}
-use Rattle.pt_sets.proofs.Paths.{run_in, run-append, AreLetters-append, IsStateBelow-run}
+use Rattle.pt_sets.proofs.Paths.{run_in, run-append, IsStateBelow-run}
+use Rattle.pt_sets.proofs.Languages.{AreLetters-append}
 use Rattle.pt_sets.proofs.Pigeonhole.{injective-le}
 use Rattle.pt_handles.specs.declared.handle.Handle.{Handle}
 use Rattle.pt_handles.specs.Handles.{IsKnown, SetOfHandle, state_of}

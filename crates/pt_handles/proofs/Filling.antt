@@ -7,7 +7,7 @@ use Rattle.pt_sets.specs.declared.Edge.TheVariants.{Near, Far}
 use Rattle.pt_sets.specs.Components.{height_of}
 use Rattle.pt_sets.specs.Lists.{Lists}
 use Rattle.pt_sets.specs.Known.{code_or_empty}
-use Rattle.pt_sets.proofs.Stepping.{cell-within}
+use Rattle.pt_sets.proofs.Cells.{cell-within}
 use Rattle.pt_sets.proofs.Pigeonhole.{injective-le}
 use Rattle.pt_handles.specs.Adopting.{Appends, AreRows, IsHeight, IsPart}
 use Rattle.pt_handles.proofs.Parts.{cell-split}

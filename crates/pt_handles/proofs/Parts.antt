@@ -12,11 +12,11 @@ use Rattle.pt_sets.specs.Components.{Component, IsComponent, IsNearEdge, IsStron
 use Rattle.pt_sets.specs.Lists.{Lists, Home}
 use Rattle.pt_sets.specs.Known.{language_in}
 use Rattle.pt_sets.specs.Realizing.{Realizes}
-use Rattle.pt_sets.proofs.Stepping.{Reaches-trans, cell-within}
-use Rattle.pt_sets.proofs.Longer.{SameLanguage-sym, SameLanguage-trans}
-use Rattle.pt_sets.proofs.Paths.{AreLetters-append}
+use Rattle.pt_sets.proofs.Reaching.{Reaches-trans}
+use Rattle.pt_sets.proofs.Cells.{cell-within}
+use Rattle.pt_sets.proofs.Languages.{SameLanguage-sym, SameLanguage-trans, AreLetters-append, quotient-same}
 use Rattle.pt_sets.proofs.Pigeonhole.{injective-le}
-use Rattle.pt_sets.proofs.Realized.{edge-cases, quotient-same}
+use Rattle.pt_sets.proofs.Realized.{edge-cases}
 use Rattle.pt_sets.proofs.Running.{run-joined, language-run, state-same}
 use Rattle.pt_scc.specs.Components.{IsEdge}
 use Rattle.pt_handles.specs.Adopting.{state_after, IsPart, LeadsTo, Leads, IsPieceOf}

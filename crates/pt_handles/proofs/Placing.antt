@@ -16,8 +16,9 @@ use Rattle.pt_sets.specs.Components.{Component, states_of, height_of, states_in_
 use Rattle.pt_sets.specs.Lists.{Lists, Home, find, list_of, Extends}
 use Rattle.pt_sets.specs.Known.{KnowsPlace, Lacks}
 use Rattle.pt_sets.specs.Realizing.{Realizes}
-use Rattle.pt_sets.proofs.Stepping.{Reaches-trans}
-use Rattle.pt_sets.proofs.Longer.{SameLanguage-sym, SameLanguage-trans, code_or_empty-longer, language_in-longer}
+use Rattle.pt_sets.proofs.Reaching.{Reaches-trans}
+use Rattle.pt_sets.proofs.Languages.{SameLanguage-sym, SameLanguage-trans}
+use Rattle.pt_sets.proofs.Longer.{code_or_empty-longer, language_in-longer}
 use Rattle.pt_sets.proofs.Lacking.{Known-longer, Realizes-longer, full_lists_lack}
 use Rattle.pt_sets.proofs.Running.{language-run, state-keeps}
 use Rattle.pt_sets.proofs.Interned.{f, iso, stands, height-read, same-read, KnowsPlace-interned}

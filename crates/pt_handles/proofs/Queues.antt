@@ -5,7 +5,7 @@ use Rattle.std.proofs.lemmas.List.{get_or_append_left, get_or_push, length_push,
 use Rattle.pt_sets.specs.Words.{IsLetter, AreLetters}
 use Rattle.pt_sets.specs.Automata.{Automaton, next_of, output_of}
 use Rattle.pt_sets.proofs.Running.{run-joined}
-use Rattle.pt_sets.proofs.Paths.{AreLetters-append}
+use Rattle.pt_sets.proofs.Languages.{AreLetters-append}
 use Rattle.pt_sets.proofs.Pigeonhole.{injective-le}
 use Rattle.pt_handles.specs.Adopting.{state_after, AreReached}
 use Rattle.pt_handles.specs.Searching.{IsQueue, Meets}

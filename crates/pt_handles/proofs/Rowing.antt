@@ -11,7 +11,7 @@ use Rattle.pt_sets.specs.declared.Exit.{Exit}
 use Rattle.pt_sets.specs.Automata.{Reaches.here}
 use Rattle.pt_sets.specs.Lists.{Lists, Home}
 use Rattle.pt_sets.specs.Known.{next_in, output_in, IsBelow, KnowsPlace}
-use Rattle.pt_sets.proofs.Stepping.{cell-within}
+use Rattle.pt_sets.proofs.Cells.{cell-within}
 use Rattle.pt_handles.specs.Rows.{size_of, total_of, IsNumbered, IsRow, AddsState, IsLaid, same_place}
 use Rattle.pt_handles.proofs.InRow.{total-cons, numbered, numbered-more, numbered-below, one-state}
 

@@ -14,7 +14,9 @@ use Rattle.pt_sets.specs.Automata.{Automaton, Reaches.here, Reaches.further, nex
 use Rattle.pt_sets.specs.Components.{tracks_of, states_of, exit_count, exit_of, edge_numbered, target_of, HasShape}
 use Rattle.pt_sets.specs.Lists.{Lists, Home, code_at}
 use Rattle.pt_sets.specs.Known.{code_or_empty, follow, next_in, output_in, language_in, HasExitTo, IsBelow, IsStateBelow, KnowsPlace}
-use Rattle.pt_sets.proofs.Stepping.{Reaches-trans, edge_numbered-cases, cell-within}
+use Rattle.pt_sets.proofs.Reaching.{Reaches-trans}
+use Rattle.pt_sets.proofs.Stepping.{edge_numbered-cases}
+use Rattle.pt_sets.proofs.Cells.{cell-within}
 use Rattle.pt_handles.specs.Rows.{size_of, total_of, IsNumbered, IsRow, IsLaid}
 use Rattle.pt_handles.specs.Knowing.{IsStateOf, HasStates, IsTested, IsClosed, Explores, table_of}
 use Rattle.pt_handles.proofs.InRow.{numbered, numbered-below}

@@ -4,7 +4,7 @@ use Rattle.std.specs.Prelude.{OnOk}
 use Rattle.pt_sets.specs.Words.{IsLetter}
 use Rattle.pt_sets.specs.Numbering.{IsReached, Adds}
 use Rattle.pt_sets.proofs.Numbered.{All-get, numbering-more}
-use Rattle.pt_sets.proofs.Paths.{AreLetters-append}
+use Rattle.pt_sets.proofs.Languages.{AreLetters-append}
 use Rattle.pt_handles.specs.Refusing.{StatesOnlyAbove}
 use Rattle.pt_handles.specs.declared.fault.TableFault.{TableFault}
 use Rattle.pt_handles.specs.declared.fault.TableFault.TheVariants.{States, NoMemory}

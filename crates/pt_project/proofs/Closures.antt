@@ -8,8 +8,7 @@ use Rattle.std.proofs.lemmas.Bool.{cases_lt}
 use Rattle.std.proofs.lemmas.List.{get_or_append_left, get_or_push}
 use Rattle.std.proofs.lemmas.Option.{slice_get-get_or, get_or_from_slice_get}
 use Rattle.std.proofs.lemmas.Nat.Bits.{bit_at-lt}
-use Rattle.pt_sets.specs.Words.{IsLetter}
-use Rattle.pt_sets.specs.Words.{sign_vector}
+use Rattle.pt_sets.specs.Words.{IsLetter, sign_vector}
 use Rattle.pt_sets.specs.Languages.{KeepsSignExtension, SetOf}
 use Rattle.pt_sets.specs.Automata.{Automaton, next_of, output_of, language_of}
 use Rattle.pt_sets.proofs.Running.{state-keeps}

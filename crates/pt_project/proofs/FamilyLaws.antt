@@ -11,7 +11,7 @@ use Rattle.pt_sets.specs.Automata.{Automaton, IsAutomaton, IsReduced, next_of, o
 use Rattle.pt_sets.specs.Elements.{ContainsByRecursion, PairsByRecursion}
 use Rattle.pt_sets.specs.Costs.{RestrictsBy, SameResidual, IncludesFamily}
 use Rattle.pt_sets.specs.Numbering.{IsReached}
-use Rattle.pt_sets.proofs.Paths.{AreLetters-append}
+use Rattle.pt_sets.proofs.Languages.{AreLetters-append}
 use Rattle.pt_sets.proofs.Digits.{length-after_digits}
 use Rattle.pt_sets.proofs.Counting.{SameSet-sym, SameSet-trans}
 use Rattle.pt_sets.proofs.Running.{state-residual}

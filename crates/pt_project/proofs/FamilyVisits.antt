@@ -9,7 +9,7 @@ use Rattle.pt_sets.specs.Elements.{ContainsByRecursion}
 use Rattle.pt_sets.specs.Automata.{Automaton, IsAutomaton, IsReduced, SetOfState}
 use Rattle.pt_sets.specs.Numbering.{IsReached, Adds}
 use Rattle.pt_sets.proofs.Numbered.{All-get, numbering-start, numbering-more}
-use Rattle.pt_sets.proofs.Paths.{AreLetters-append}
+use Rattle.pt_sets.proofs.Languages.{AreLetters-append}
 use Rattle.pt_handles.specs.Refusing.{StatesOnlyAbove}
 use Rattle.pt_handles.specs.declared.fault.TableFault.{TableFault}
 use Rattle.pt_handles.specs.declared.fault.TableFault.TheVariants.{States, NoMemory}

@@ -6,7 +6,7 @@ use Rattle.std.proofs.lemmas.List.{append-nil}
 use Rattle.pt_sets.specs.Words.{IsLetter, AreLetters}
 use Rattle.pt_sets.specs.Automata.{Automaton, next_of, output_of, run}
 use Rattle.pt_sets.specs.Shortlex.{IsLexBefore, IsShortlexBefore}
-use Rattle.pt_sets.proofs.Paths.{AreLetters-append}
+use Rattle.pt_sets.proofs.Languages.{AreLetters-append}
 use Rattle.pt_sets.proofs.Running.{run-joined}
 use Rattle.pt_query.specs.Walks.{Before, IsWalk, word_to, access}
 

@@ -7,7 +7,7 @@ use Rattle.pt_sets.specs.Words.{IsLetter}
 use Rattle.pt_sets.specs.Sets.{VectorSet, residual, residual_by}
 use Rattle.pt_sets.specs.Automata.{Automaton, IsAutomaton, next_of, SetOfState, Reaches, Reaches.here, Reaches.further}
 use Rattle.pt_sets.proofs.Counting.{SameSet-sym}
-use Rattle.pt_sets.proofs.Stepping.{Reaches-trans}
+use Rattle.pt_sets.proofs.Reaching.{Reaches-trans}
 use Rattle.pt_scc.specs.Components.{AreComponents, IsEdge, IsIn}
 use Rattle.pt_handles.specs.Expansion.{Expands}
 use Rattle.pt_query.specs.Queries.{IsBounded}

@@ -12,7 +12,7 @@ use Rattle.pt_sets.specs.Costs.{SameResidual, SamePair, CostWithin}
 use Rattle.pt_sets.specs.Numbering.{IsReached}
 use Rattle.pt_sets.proofs.Members.{In, In-get_or}
 use Rattle.pt_sets.proofs.Counting.{SameSet-sym, SameSet-trans, is-within, within-monotone}
-use Rattle.pt_sets.proofs.Paths.{AreLetters-append}
+use Rattle.pt_sets.proofs.Languages.{AreLetters-append}
 use Rattle.pt_sets.proofs.Numbered.{All-get}
 use Rattle.pt_sets.proofs.Running.{state-accepts}
 use Rattle.pt_sets.proofs.WordValues.{length-value}

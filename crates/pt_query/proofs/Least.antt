@@ -5,7 +5,7 @@ use Rattle.std.proofs.lemmas.Bool.{cases_lt}
 use Rattle.pt_sets.specs.Words.{Vector, IsLetter, AreLetters, IsWord, value}
 use Rattle.pt_sets.specs.Automata.{Automaton, IsAutomaton, output_of, language_of, SetOfState}
 use Rattle.pt_sets.specs.Shortlex.{IsShortestWord, IsShortlexBefore, ComesBefore, IsLeastMember}
-use Rattle.pt_sets.proofs.Paths.{AreLetters-append}
+use Rattle.pt_sets.proofs.Languages.{AreLetters-append}
 use Rattle.pt_sets.proofs.Running.{state-accepts}
 use Rattle.pt_sets.proofs.WordValues.{length-value}
 use Rattle.pt_sets.proofs.SameValues.{split-sign, shortest-exists, AreLetters-front}

@@ -5,7 +5,7 @@ use Rattle.std.proofs.lemmas.Bool.{cases_eq}
 use Rattle.std.proofs.lemmas.List.{length-set}
 use Rattle.pt_sets.specs.Words.{AreLetters}
 use Rattle.pt_sets.specs.Automata.{Automaton, IsAutomaton, next_of, output_of, run}
-use Rattle.pt_sets.proofs.Paths.{AreLetters-append}
+use Rattle.pt_sets.proofs.Languages.{AreLetters-append}
 use Rattle.pt_sets.proofs.Running.{run-joined}
 use Rattle.pt_sets.proofs.SameValues.{split-sign, AreLetters-front}
 use Rattle.pt_query.specs.Fresh.{IsFreshFrom, IsLeastWide, HasNoWide}

@@ -9,7 +9,7 @@ use Rattle.pt_sets.specs.Elements.{PairsByRecursion}
 use Rattle.pt_sets.specs.Automata.{Automaton, IsAutomaton, next_of, output_of, run}
 use Rattle.pt_sets.specs.Numbering.{Adds}
 use Rattle.pt_sets.proofs.Numbered.{All-get}
-use Rattle.pt_sets.proofs.Paths.{AreLetters-append}
+use Rattle.pt_sets.proofs.Languages.{AreLetters-append}
 use Rattle.pt_sets.proofs.Running.{run-joined}
 use Rattle.pt_handles.specs.declared.fault.TableFault.{TableFault}
 use Rattle.pt_handles.specs.declared.fault.TableFault.TheVariants.{States, NoMemory}

@@ -16,9 +16,10 @@ use Rattle.pt_sets.specs.Components.{Component, component_of, IsNearEdge, IsStro
 use Rattle.pt_sets.specs.Lists.{Lists, Home, list_of, code_at, find, code_eq}
 use Rattle.pt_sets.specs.Known.{code_or_empty, follow, next_in, output_in, language_in, IsBelow, IsCanonical, IsStateBelow, KnowsPlace, Known}
 use Rattle.pt_sets.specs.Realizing.{Realizes, InternedComponentsAreKnown}
-use Rattle.pt_sets.proofs.Stepping.{KnowsPlace-below, edge_numbered-cases, cell-within}
-use Rattle.pt_sets.proofs.Longer.{SameLanguage-sym, SameLanguage-trans}
-use Rattle.pt_sets.proofs.Paths.{edge_at-component_of, output_at-component_of, crossing, run_in, run-append, AreLetters-append}
+use Rattle.pt_sets.proofs.Stepping.{KnowsPlace-below, edge_numbered-cases}
+use Rattle.pt_sets.proofs.Cells.{cell-within}
+use Rattle.pt_sets.proofs.Languages.{SameLanguage-sym, SameLanguage-trans, AreLetters-append}
+use Rattle.pt_sets.proofs.Paths.{edge_at-component_of, output_at-component_of, crossing, run_in, run-append}
 use Rattle.pt_sets.proofs.Matching.{at_place}
 use Rattle.pt_sets.proofs.Lacking.{language_in-run-quotient}
 use Rattle.pt_sets.proofs.Canonical.{at, known_states_are_one}

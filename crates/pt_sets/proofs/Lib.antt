@@ -1,6 +1,11 @@
 pub mod Examples
-pub mod ListLaws
+pub mod Cells
+pub mod Prefixes
 pub mod Positions
+pub mod FirstPlaces
+pub mod Reaching
+pub mod Languages
+pub mod ListLaws
 pub mod Stepping
 pub mod Longer
 pub mod Paths

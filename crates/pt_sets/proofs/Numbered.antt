@@ -10,8 +10,8 @@ use Rattle.pt_sets.specs.Elements.{PairsByRecursion}
 use Rattle.pt_sets.specs.Costs.{CostIs, CostAbove}
 use Rattle.pt_sets.specs.Numbering.{Numbering, IsReached, Adds}
 use Rattle.pt_sets.proofs.Members.{In, In-get_or}
-use Rattle.pt_sets.proofs.Paths.{AreLetters-append}
-use Rattle.pt_sets.proofs.Stepping.{cell-within}
+use Rattle.pt_sets.proofs.Languages.{AreLetters-append}
+use Rattle.pt_sets.proofs.Cells.{cell-within}
 use Rattle.pt_sets.proofs.Valued.{cost-above, has-cost, closed-all}
 
 -- lists with one more item

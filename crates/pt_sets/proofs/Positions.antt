@@ -2,12 +2,11 @@
 use Rattle.std.proofs.Common.{◌≡◌, ◌⊎◌, inl, inr, ℕ, ◌+◌, ◌<◌, ◌≤◌, Bool, true, false, not, cond, List, [], ◌∷◌, ◌++◌, length, take, drop, nat_eq, nat_lt, refl, ap, sym, ◌∙◌, position, Some, None, Option, option_map, arith, length-append}
 use Rattle.std.specs.Option.{option_or}
 use Rattle.std.specs.List.{position_or_len}
-use Rattle.std.specs.Cmp.Lexicographic.{nat_list_eq_equiv}
+use Rattle.std.specs.Cmp.Lexicographic.{nat_list_eq_equiv, pointwise}
 use Rattle.std.proofs.lemmas.Bool.Decides.{nat_tests}
 use Rattle.std.proofs.lemmas.List.{take-append-drop}
 use Rattle.std.proofs.lemmas.List.Sums.{prefix_len-le-length}
 use Rattle.std.proofs.lemmas.List.Folds.{prefix_len-append}
-use Rattle.pt_sets.specs.Lists.{code_eq}
 
 -- where a number in the second of two ranges stands in both together
 later_range : (first second at : ℕ) → cond (nat_lt (first + at) (first + second)) (Some (first + at)) None ≡ option_map (λ i. first + i) (cond (nat_lt at second) (Some at) None)
@@ -61,15 +60,15 @@ position-single p x before = by_answer (p x)
     by_answer false = refl
 
 -- after a push, the first position is the one before, or else the last where the code is the one that was pushed
-pub position-push : (codes : List (List ℕ)) (code q : List ℕ) → position (code_eq q) (codes ++ code ∷ []) ≡ option_or (position (code_eq q) codes) (cond (code_eq code q) (Some (length codes)) None)
+pub position-push : (codes : List (List ℕ)) (code q : List ℕ) → position (pointwise nat_eq q) (codes ++ code ∷ []) ≡ option_or (position (pointwise nat_eq q) codes) (cond (pointwise nat_eq code q) (Some (length codes)) None)
 position-push codes code q =
-    position-append (code_eq q) codes (code ∷ [])
-    ∙ ap (option_or (position (code_eq q) codes)) (position-single (code_eq q) code (length codes) ∙ ap (λ b. cond b (Some (length codes)) None) (nat_list_eq_equiv.symm q code))
+    position-append (pointwise nat_eq q) codes (code ∷ [])
+    ∙ ap (option_or (position (pointwise nat_eq q) codes)) (position-single (pointwise nat_eq q) code (length codes) ∙ ap (λ b. cond b (Some (length codes)) None) (nat_list_eq_equiv.symm q code))
 
 -- a code that was not there is first where it was put
-pub position-pushed : (codes : List (List ℕ)) (code : List ℕ) → position (code_eq code) codes ≡ None → position (code_eq code) (codes ++ code ∷ []) ≡ Some (length codes)
+pub position-pushed : (codes : List (List ℕ)) (code : List ℕ) → position (pointwise nat_eq code) codes ≡ None → position (pointwise nat_eq code) (codes ++ code ∷ []) ≡ Some (length codes)
 position-pushed codes code absent =
-    position-push codes code code ∙ ap (λ o. option_or o (cond (code_eq code code) (Some (length codes)) None)) absent
+    position-push codes code code ∙ ap (λ o. option_or o (cond (pointwise nat_eq code code) (Some (length codes)) None)) absent
     ∙ ap (λ b. cond b (Some (length codes)) None) (nat_list_eq_equiv.refl code)
 
 -- where there is no first position, nothing passes

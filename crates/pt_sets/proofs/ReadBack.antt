@@ -10,8 +10,10 @@ use Rattle.std.proofs.lemmas.List.FromFn.{length-map-range_with_len, get_or-map-
 use Rattle.pt_sets.specs.declared.Exit.{Exit}
 use Rattle.pt_sets.specs.declared.Edge.{Edge}
 use Rattle.pt_sets.specs.declared.Edge.TheVariants.{Near, Far}
-use Rattle.pt_sets.specs.Components.{Component, component_of, StaysWithin, IsComponent, IsStronglyConnected, IsIsomorphism, MapsEdge, HasShape, exit_count, exit_of, output_of, edge_at, output_at, edge_numbered, target_cell, target_of, edges_from, outputs_from, letters_of, edge_number, exits_in_order, exit_numbers, exit_eq, far_exits, first_places, code_from, states_in_order, bit}
-use Rattle.pt_sets.proofs.Stepping.{edge_numbered-cases, cell-within}
+use Rattle.pt_sets.specs.Components.{Component, component_of, StaysWithin, IsComponent, IsStronglyConnected, IsIsomorphism, MapsEdge, HasShape, exit_count, exit_of, output_of, edge_at, output_at, edge_numbered, target_cell, target_of, edges_from, outputs_from, letters_of, edge_number, exits_in_order, exit_numbers, exit_eq, far_exits, code_from, states_in_order, bit}
+use Rattle.pt_sets.specs.Elements.{first_places}
+use Rattle.pt_sets.proofs.Stepping.{edge_numbered-cases}
+use Rattle.pt_sets.proofs.Cells.{cell-within}
 use Rattle.pt_sets.proofs.Paths.{edge_at-component_of, output_at-component_of}
 use Rattle.pt_sets.proofs.Members.{In, In-AllOf, In-get_or, In-map, In-flat_map, In-filter, In-range, In-position, Distinct-injective}
 use Rattle.pt_sets.proofs.Isomorphic.{search_order-within, edge_at-within}

@@ -7,7 +7,7 @@ use Rattle.pt_sets.specs.Elements.{AnyByRecursion, PairsByRecursion}
 use Rattle.pt_sets.specs.Costs.{CostAbove, CostIs}
 use Rattle.pt_sets.specs.Numbering.{IsReached}
 use Rattle.pt_sets.proofs.Members.{In}
-use Rattle.pt_sets.proofs.Paths.{AreLetters-append}
+use Rattle.pt_sets.proofs.Languages.{AreLetters-append}
 
 module _ {V : Type 0} (t : ℕ) (Stands : List ℕ → V → Type 0) where
   -- a list of letters for each value

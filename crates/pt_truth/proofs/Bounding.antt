@@ -14,7 +14,7 @@ use Rattle.pt_sets.specs.Costs.{SameResidual}
 use Rattle.pt_sets.proofs.Counting.{SameSet-refl, SameSet-sym, SameSet-trans}
 use Rattle.pt_sets.proofs.Digits.{length-doubled_plus, length-after_digits, length-sign_vector, doubled_plus-sign_vector, sign_vector-doubled_plus, sign_vector-injective}
 use Rattle.pt_sets.proofs.Halving.{distance, size, size-sign_vector, sign_vector-parities, parities-letter}
-use Rattle.pt_sets.proofs.Paths.{AreLetters-append}
+use Rattle.pt_sets.proofs.Languages.{AreLetters-append}
 use Rattle.pt_sets.proofs.SameValues.{AreLetters-front}
 use Rattle.pt_truth.proofs.Enumerating.{any_decided, any_of, the_one, all_of, all_own, all_map, shorter, shorter_has, all_shorter}
 use Rattle.pt_truth.proofs.Searching.{numbers, numbers_has, numbers_below, over_numbers}

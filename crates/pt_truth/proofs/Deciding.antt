@@ -9,7 +9,7 @@ use Rattle.pt_sets.specs.Costs.{SameResidual}
 use Rattle.pt_sets.proofs.Acceptance.{some-word}
 use Rattle.pt_sets.proofs.Counting.{residual-equivalence}
 use Rattle.pt_sets.proofs.Digits.{length-after_digits, length-sign_vector}
-use Rattle.pt_sets.proofs.Paths.{AreLetters-append}
+use Rattle.pt_sets.proofs.Languages.{AreLetters-append}
 use Rattle.pt_sets.proofs.WordValues.{value-append}
 use Rattle.pt_truth.proofs.Enumerating.{any_decided, any_of, the_one, all_of, all_map}
 use Rattle.pt_truth.proofs.Searching.{numbers, numbers_has, numbers_below, search_behind}

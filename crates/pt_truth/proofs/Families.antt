@@ -9,7 +9,7 @@ use Rattle.std.proofs.lemmas.Bool.Decides.{nat_tests}
 use Rattle.pt_sets.specs.Elements.{AnyByRecursion, ContainsByRecursion}
 use Rattle.pt_sets.specs.Words.{IsLetter, AreLetters}
 use Rattle.pt_sets.specs.Costs.{RestrictsBy}
-use Rattle.pt_sets.proofs.Paths.{AreLetters-append}
+use Rattle.pt_sets.proofs.Languages.{AreLetters-append}
 use Rattle.pt_sets.proofs.SameValues.{AreLetters-front}
 use Rattle.pt_truth.proofs.Enumerating.{any_of, the_one, all_of, in_front, put_in_front, all_in_front_of}
 use Rattle.pt_truth.proofs.Searching.{numbers, over_numbers, numbers_below}

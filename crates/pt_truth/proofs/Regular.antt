@@ -8,7 +8,7 @@ use Rattle.pt_sets.specs.Words.{Vector, IsLetter, AreLetters, doubled_plus, afte
 use Rattle.pt_sets.specs.Sets.{SameSet, residual_by}
 use Rattle.pt_sets.specs.Costs.{SameResidual}
 use Rattle.pt_sets.proofs.Digits.{length-after_digits}
-use Rattle.pt_sets.proofs.Paths.{AreLetters-append}
+use Rattle.pt_sets.proofs.Languages.{AreLetters-append}
 
 -- Values of lists of letters, of which there are finitely many: lists of one class have one value, and what is in front
 -- of equal letters and has one value has one value with them.

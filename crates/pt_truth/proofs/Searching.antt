@@ -5,7 +5,7 @@ use Rattle.std.proofs.lemmas.Bool.{cases_eq, cases_lt}
 use Rattle.pt_sets.specs.Elements.{AnyByRecursion, ContainsByRecursion}
 use Rattle.pt_sets.specs.Words.{IsLetter, AreLetters}
 use Rattle.pt_sets.specs.Costs.{CostWithin, IsEquivalence}
-use Rattle.pt_sets.proofs.Paths.{AreLetters-append}
+use Rattle.pt_sets.proofs.Languages.{AreLetters-append}
 use Rattle.pt_truth.proofs.Enumerating.{any_decided, any_of, the_one, all_of, all_own, all_map, shorter, shorter_has, all_shorter}
 use Rattle.pt_truth.proofs.Regular.{IsFinite, cut}
 

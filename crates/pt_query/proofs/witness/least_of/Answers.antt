@@ -2,7 +2,7 @@ use Rattle.std.proofs.Common.{ℕ, ◌≤◌, List, ◌++◌, [], ◌∷◌, len
 use Rattle.pt_sets.specs.Words.{IsWord, value}
 use Rattle.pt_sets.specs.Automata.{SetOfState}
 use Rattle.pt_sets.specs.Shortlex.{IsLeastMember}
-use Rattle.pt_sets.proofs.Paths.{AreLetters-append}
+use Rattle.pt_sets.proofs.Languages.{AreLetters-append}
 use Rattle.pt_query.specs.Queries.{IsNarrow}
 use Rattle.pt_query.specs.Walks.{access, IsFirstOutput}
 use Rattle.pt_query.specs.Narrow.{IsWideWord}
