@@ -3,14 +3,14 @@ use Rattle.std.proofs.Common.{ℕ, zero, suc, ◌^◌, ◌<◌, ◌≤◌, ◌�
 use Rattle.std.specs.List.{AllByRecursion}
 use Rattle.std.proofs.lemmas.List.{length-map}
 use Rattle.std.proofs.lemmas.Option.{slice_get_within}
-use Rattle.pt_sets.specs.Elements.{ContainsByRecursion, PairsByRecursion}
+use Rattle.pt_base.specs.Elements.{ContainsByRecursion, PairsByRecursion}
 use Rattle.pt_sets.specs.Words.{Vector, IsLetter, AreLetters, sign_vector, value}
 use Rattle.pt_sets.specs.Sets.{SameSet, residual_by}
 use Rattle.pt_sets.specs.Languages.{Encodes}
 use Rattle.pt_sets.specs.Automata.{Automaton, run, next_of, output_of, language_of, SetOfState, IsAutomaton}
 use Rattle.pt_sets.specs.Costs.{SameResidual}
 use Rattle.pt_sets.proofs.Acceptance.{some-word}
-use Rattle.pt_sets.proofs.Cells.{cell-within}
+use Rattle.pt_base.proofs.Cells.{cell-within}
 use Rattle.pt_atoms.proofs.Forms.{form_after_is, same_form}
 use Rattle.pt_atoms.proofs.ParameterForms.{own_form, residual_form_at}
 use Rattle.pt_atoms.proofs.Signs.{sign_rule, word_in_set}

@@ -1,7 +1,7 @@
 -- The number of forms that are reached is the number of residuals.
 use Rattle.std.proofs.Common.{ℕ, inl, inr, List, [], ◌∷◌}
 use Rattle.std.specs.List.{AllByRecursion}
-use Rattle.pt_sets.specs.Elements.{AnyByRecursion, PairsByRecursion}
+use Rattle.pt_base.specs.Elements.{AnyByRecursion, PairsByRecursion}
 use Rattle.pt_sets.specs.Costs.{CostAbove, CostWithin, CostIs}
 
 -- Two relations that imply one another on lists of letters give one cost.

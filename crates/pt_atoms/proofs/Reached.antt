@@ -3,7 +3,7 @@ use Rattle.std.proofs.Common.{ℕ, zero, suc, ◌+◌, ◌^◌, ◌<◌, ◌≡�
 use Rattle.std.specs.Prelude.{slice_get, Some}
 use Rattle.std.specs.List.{AllByRecursion}
 use Rattle.std.proofs.lemmas.List.{length-map}
-use Rattle.pt_sets.specs.Elements.{AnyByRecursion, ContainsByRecursion, PairsByRecursion}
+use Rattle.pt_base.specs.Elements.{AnyByRecursion, ContainsByRecursion, PairsByRecursion}
 use Rattle.pt_sets.specs.Words.{AreLetters}
 use Rattle.pt_atoms.proofs.Forms.{same_form, same_residual, form_after_is}
 use Rattle.pt_atoms.proofs.FormCosts.{cost_above_by, cost_is_by}

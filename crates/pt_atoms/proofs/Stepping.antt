@@ -4,7 +4,7 @@ use Rattle.std.specs.Prelude.{ℤ, pos, neg_ℤ}
 use Rattle.std.proofs.lemmas.Bool.{cases_lt}
 use Rattle.std.proofs.lemmas.Option.{slice_get_within}
 use Rattle.pt_sets.specs.Words.{IsLetter, digits, sign_vector}
-use Rattle.pt_sets.proofs.Cells.{cell-within}
+use Rattle.pt_base.proofs.Cells.{cell-within}
 use Rattle.pt_atoms.proofs.SumLemmas.{dot-sign}
 use Rattle.pt_atoms.proofs.ParameterForms.{own_form}
 use Rattle.pt_atoms.proofs.Reached.{reached_at, reached_start}

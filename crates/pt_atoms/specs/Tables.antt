@@ -1,7 +1,7 @@
 -- The forms that a normal form reaches, and the automaton of its set.
 use Rattle.std.specs.Prelude.{ℕ, ◌<◌, ◌≡◌, List, length, map}
 use Rattle.std.specs.List.{AllByRecursion}
-use Rattle.pt_sets.specs.Elements.{ContainsByRecursion, PairsByRecursion}
+use Rattle.pt_base.specs.Elements.{ContainsByRecursion, PairsByRecursion}
 use Rattle.pt_sets.specs.Words.{IsLetter, AreLetters}
 use Rattle.pt_sets.specs.Sets.{SameSet, residual_by}
 use Rattle.pt_sets.specs.Automata.{Automaton, SetOfState}

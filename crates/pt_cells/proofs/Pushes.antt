@@ -5,7 +5,7 @@ use Rattle.std.proofs.lemmas.Bool.Decides.{nat_tests}
 use Rattle.std.proofs.lemmas.List.{take-append-le}
 use Rattle.std.proofs.lemmas.List.Sums.{prefix_len-le-length}
 use Rattle.std.proofs.lemmas.List.Folds.{position_or_len_push}
-use Rattle.pt_sets.proofs.Prefixes.{prefix-length}
+use Rattle.pt_base.proofs.Prefixes.{prefix-length}
 use Rattle.pt_shards.specs.Shards.{Begins}
 
 -- an item of the longer list stands in the old one, or is the new one

@@ -1,7 +1,7 @@
 -- A pass that walks one cell more.
 use Rattle.std.proofs.Common.{◌≡◌, inl, inr, Bool, true, false, None, position, subst, ℕ, ◌<◌, List, [], ◌∷◌, ◌++◌, length, ap, refl, sym, ◌∙◌, arith, Some, Option, slice_get, length-append}
 use Rattle.std.specs.Cmp.Lexicographic.{bytes_decides, nat_list_eq_equiv}
-use Rattle.pt_sets.specs.Lists.{code_eq}
+use Rattle.pt_known.specs.Lists.{code_eq}
 use Rattle.pt_cells.specs.Places.{AreNotesOf, name_from}
 use Rattle.pt_cells.specs.Seeing.{Cells, Seen, IsOf, OneMore}
 use Rattle.pt_cells.proofs.Pushes.{slice_get-push, position-push, position-push_other}

@@ -1,6 +1,6 @@
 -- A shard of set-once cells, and what a pass has seen in it.
 use Rattle.std.specs.Prelude.{◌≡◌, ◌↔◌, ℕ, ◌≤◌, ◌++◌, [], ◌∷◌, List, length, Bool, IsTrue, Option, Some, None, position, slice_get}
-use Rattle.pt_sets.specs.Lists.{code_eq}
+use Rattle.pt_known.specs.Lists.{code_eq}
 use Rattle.pt_cells.specs.Places.{AreNotesOf, name_from}
 use Rattle.pt_cells.specs.declared.shard.CellFault.{CellFault}
 use Rattle.pt_cells.specs.declared.shard.CellFault.TheVariants.{Full, NoMemory}

@@ -1,7 +1,7 @@
 // A shard of set-once cells, and a pass over it.
 ghost use Rattle.std.specs.Prelude.{◌≡◌, ◌+◌, ◌<◌, ◌≤◌, [], length, option_map, position, slice_get, IfOk, IfErr, IfSome, IfNone, OnErr, Ok, Some};
 ghost use Rattle.std.specs.Arc.{arc_value};
-ghost use Rattle.pt_sets.specs.Lists.{code_eq};
+ghost use Rattle.pt_known.specs.Lists.{code_eq};
 ghost use Rattle.pt_shards.specs.Shards.{Begins, JoinsLists};
 ghost use Rattle.pt_cells.specs.Seeing.{IsOf, OneMore, RefusesFull};
 

@@ -8,14 +8,14 @@ use Rattle.std.proofs.lemmas.List.{take_more, take-append-le}
 use Rattle.std.proofs.Math.ListN.{get_or-append}
 use Rattle.std.proofs.lemmas.List.FromFn.{length-map-range_with_len}
 use Rattle.indexmap.specs.IndexSet.{insert_key, insert_all}
-use Rattle.pt_sets.specs.declared.Exit.{Exit}
-use Rattle.pt_sets.specs.declared.Edge.{Edge}
-use Rattle.pt_sets.specs.declared.Edge.TheVariants.{Near, Far}
-use Rattle.pt_sets.specs.Components.{Component, IsComponent, IsStronglyConnected, near_states, far_exits, exit_eq, edges_from, edge_number, states_in_order, exits_in_order}
-use Rattle.pt_sets.specs.Elements.{first_places}
-use Rattle.pt_sets.proofs.ReadBack.{exit_eq-same, exit_eq-refl}
-use Rattle.pt_sets.proofs.FirstPlaces.{first_places-append}
-use Rattle.pt_sets.proofs.SearchOrder.{order-length}
+use Rattle.pt_known.specs.declared.Exit.{Exit}
+use Rattle.pt_known.specs.declared.Edge.{Edge}
+use Rattle.pt_known.specs.declared.Edge.TheVariants.{Near, Far}
+use Rattle.pt_known.specs.Components.{Component, IsComponent, IsStronglyConnected, near_states, far_exits, exit_eq, edges_from, edge_number, states_in_order, exits_in_order}
+use Rattle.pt_base.specs.Elements.{first_places}
+use Rattle.pt_known.proofs.ReadBack.{exit_eq-same, exit_eq-refl}
+use Rattle.pt_base.proofs.FirstPlaces.{first_places-append}
+use Rattle.pt_known.proofs.SearchOrder.{order-length}
 use Rattle.pt_code.specs.Searching.{IsNumbered, visit_one, visit_all}
 use Rattle.pt_code.specs.Sides.{HasMet, numbers_of}
 use Rattle.pt_code.specs.Parts.{number_by, edge_row}

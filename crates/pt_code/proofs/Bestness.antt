@@ -1,6 +1,6 @@
 -- The numbers that the best order gives the states.
 use Rattle.std.proofs.Common.{◌≡◌, ℕ, ◌<◌, List, length, subst}
-use Rattle.pt_sets.specs.Components.{Component, IsComponent, IsStronglyConnected, states_in_order}
+use Rattle.pt_known.specs.Components.{Component, IsComponent, IsStronglyConnected, states_in_order}
 use Rattle.pt_code.specs.Coding.{numbers_from}
 use Rattle.pt_code.specs.Searching.{IsNumbered}
 use Rattle.pt_code.proofs.Placing.{placed-all}

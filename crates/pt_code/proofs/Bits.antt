@@ -4,7 +4,7 @@ use Rattle.std.specs.Ordering.{nat_cmp, bool_cmp, ordering_then, ordering_revers
 use Rattle.std.specs.Cmp.Lexicographic.{slice_cmp}
 use Rattle.std.specs.declared.cmp.Ordering.{Ordering}
 use Rattle.std.specs.declared.cmp.Ordering.TheVariants.{Less, Equal, Greater}
-use Rattle.pt_sets.specs.Components.{Component, bit}
+use Rattle.pt_known.specs.Components.{Component, bit}
 use Rattle.pt_code.specs.Parts.{row_of, IsHighs}
 use Rattle.pt_code.proofs.Comparing.{even-rows, cmp-back}
 

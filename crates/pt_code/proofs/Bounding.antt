@@ -7,12 +7,12 @@ use Rattle.std.specs.Cmp.Lexicographic.{slice_cmp}
 use Rattle.std.specs.declared.cmp.Ordering.TheVariants.{Equal, Greater}
 use Rattle.std.specs.declared.cmp.Ordering.{Ordering}
 use Rattle.std.proofs.lemmas.Bool.{cases_lt, cases_eq}
-use Rattle.pt_sets.proofs.ReadBack.{bool-cases}
+use Rattle.pt_known.proofs.ReadBack.{bool-cases}
 use Rattle.std.proofs.Math.ListN.{get_or-append}
-use Rattle.pt_sets.specs.Components.{Component, IsComponent, IsStronglyConnected, near_states, edges_from, states_in_order}
-use Rattle.pt_sets.specs.Elements.{first_places}
-use Rattle.pt_sets.proofs.FirstPlaces.{first_places-append}
-use Rattle.pt_sets.proofs.SearchOrder.{order-closed, order-length}
+use Rattle.pt_known.specs.Components.{Component, IsComponent, IsStronglyConnected, near_states, edges_from, states_in_order}
+use Rattle.pt_base.specs.Elements.{first_places}
+use Rattle.pt_base.proofs.FirstPlaces.{first_places-append}
+use Rattle.pt_known.proofs.SearchOrder.{order-closed, order-length}
 use Rattle.pt_code.specs.Bounding.{Bounded, IsBound, AreBounds, IsByWay, IsBySome, nothing}
 use Rattle.pt_code.specs.declared.bounds.Bound.{Bound}
 use Rattle.std.proofs.lemmas.List.{get_or_default, get_or_past}

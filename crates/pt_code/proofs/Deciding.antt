@@ -7,11 +7,11 @@ use Rattle.std.specs.declared.cmp.Ordering.{Ordering}
 use Rattle.std.specs.declared.cmp.Ordering.TheVariants.{Less, Equal, Greater}
 use Rattle.std.proofs.lemmas.List.{length-map}
 use Rattle.std.proofs.lemmas.List.FromFn.{length-map-range_with_len}
-use Rattle.pt_sets.specs.Components.{Component, IsComponent, IsStronglyConnected, bit, output_at, edge_at, edge_number, outputs_from, edges_from, states_in_order, exits_in_order, code_from}
-use Rattle.pt_sets.proofs.SearchOrder.{order-length}
-use Rattle.pt_sets.proofs.Isomorphic.{search_order-within}
-use Rattle.pt_sets.proofs.Members.{In-AllOf, In-get_or}
-use Rattle.pt_sets.proofs.Used.{length-flat_map-each}
+use Rattle.pt_known.specs.Components.{Component, IsComponent, IsStronglyConnected, bit, output_at, edge_at, edge_number, outputs_from, edges_from, states_in_order, exits_in_order, code_from}
+use Rattle.pt_known.proofs.SearchOrder.{order-length}
+use Rattle.pt_known.proofs.Isomorphic.{search_order-within}
+use Rattle.pt_base.proofs.Members.{In-AllOf, In-get_or}
+use Rattle.pt_known.proofs.Used.{length-flat_map-each}
 use Rattle.pt_code.specs.Parts.{IsVerdict, row_of, edge_row, header_of, outputs_part, exits_part, links_part}
 use Rattle.pt_code.proofs.Comparing.{cmp-append, cmp-itself, verdict-all, verdict-more}
 

@@ -4,13 +4,13 @@ use Rattle.std.specs.Prelude.{◌==◌, ◌&&◌}
 use Rattle.std.specs.List.{filter, list_any, position_or_len}
 use Rattle.std.proofs.lemmas.List.{append-nil, take_more}
 use Rattle.indexmap.specs.IndexSet.{insert_key, insert_all}
-use Rattle.pt_sets.specs.declared.Exit.{Exit}
-use Rattle.pt_sets.specs.declared.Edge.{Edge}
-use Rattle.pt_sets.specs.declared.Edge.TheVariants.{Near, Far}
-use Rattle.pt_sets.specs.Elements.{first_places}
-use Rattle.pt_sets.specs.Components.{far_exits, exit_eq}
-use Rattle.pt_sets.proofs.ReadBack.{exit_eq-same, exit_eq-refl, bool-cases}
-use Rattle.pt_sets.proofs.FirstPlaces.{filter-append}
+use Rattle.pt_known.specs.declared.Exit.{Exit}
+use Rattle.pt_known.specs.declared.Edge.{Edge}
+use Rattle.pt_known.specs.declared.Edge.TheVariants.{Near, Far}
+use Rattle.pt_base.specs.Elements.{first_places}
+use Rattle.pt_known.specs.Components.{far_exits, exit_eq}
+use Rattle.pt_known.proofs.ReadBack.{exit_eq-same, exit_eq-refl, bool-cases}
+use Rattle.pt_base.proofs.FirstPlaces.{filter-append}
 use Rattle.pt_code.specs.Parts.{number_in}
 
 module _ {X : Type 0} (eq : X → X → Bool) (same : (x y : X) → eq x y ≡ true → x ≡ y) (itself : (x : X) → eq x x ≡ true) where

@@ -4,7 +4,7 @@ use Rattle.std.specs.Ordering.{nat_cmp, ordering_reverse}
 use Rattle.std.specs.Cmp.Lexicographic.{slice_cmp}
 use Rattle.std.specs.declared.cmp.Ordering.{Ordering}
 use Rattle.std.specs.declared.cmp.Ordering.TheVariants.{Less, Equal, Greater}
-use Rattle.pt_sets.specs.Components.{Component, code_from}
+use Rattle.pt_known.specs.Components.{Component, code_from}
 use Rattle.pt_code.specs.Coding.{IsCoding, numbers_from}
 use Rattle.pt_code.specs.Parts.{Leads}
 use Rattle.pt_code.proofs.Comparing.{cmp-itself, cmp-back, cmp-through}

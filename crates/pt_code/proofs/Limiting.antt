@@ -9,9 +9,9 @@ use Rattle.std.proofs.lemmas.Bool.{cases_lt}
 use Rattle.std.proofs.lemmas.List.{get_or_append_left, take_more, take-append-drop, take-append-le}
 use Rattle.std.proofs.Math.ListN.{get_or-append}
 use Rattle.std.proofs.Math.Seq.{get_or-append_seam}
-use Rattle.pt_sets.specs.Components.{Component, IsComponent, IsStronglyConnected, near_states, edges_from, states_in_order}
-use Rattle.pt_sets.proofs.ReadBack.{bool-cases}
-use Rattle.pt_sets.proofs.SearchOrder.{order-length}
+use Rattle.pt_known.specs.Components.{Component, IsComponent, IsStronglyConnected, near_states, edges_from, states_in_order}
+use Rattle.pt_known.proofs.ReadBack.{bool-cases}
+use Rattle.pt_known.proofs.SearchOrder.{order-length}
 use Rattle.pt_code.specs.Best.{IsBest}
 use Rattle.pt_code.specs.Bounding.{nothing}
 use Rattle.pt_code.specs.Limiting.{IsLate, IsSoon}

@@ -10,12 +10,12 @@ use Rattle.std.proofs.lemmas.List.Folds.{list_any-append}
 use Rattle.std.proofs.lemmas.List.FromFn.{length-range_with_len, get_or-range_with_len}
 use Rattle.std.proofs.Math.Seq.{drop-append_seam, get_or-append_seam}
 use Rattle.std.proofs.lemmas.List.{get_or_append_left}
-use Rattle.pt_sets.specs.Components.{Component, IsComponent, IsStronglyConnected, near_states, edges_from}
-use Rattle.pt_sets.specs.Elements.{first_places}
-use Rattle.pt_sets.proofs.Mapping.{AllOf, AllOf-first_places}
-use Rattle.pt_sets.proofs.Members.{In-AllOf, In-get_or}
-use Rattle.pt_sets.proofs.Isomorphic.{near_states-within, edges_from-within}
-use Rattle.pt_sets.proofs.SearchOrder.{order-length}
+use Rattle.pt_known.specs.Components.{Component, IsComponent, IsStronglyConnected, near_states, edges_from}
+use Rattle.pt_base.specs.Elements.{first_places}
+use Rattle.pt_base.proofs.Mapping.{AllOf, AllOf-first_places}
+use Rattle.pt_base.proofs.Members.{In-AllOf, In-get_or}
+use Rattle.pt_known.proofs.Isomorphic.{near_states-within, edges_from-within}
+use Rattle.pt_known.proofs.SearchOrder.{order-length}
 use Rattle.pt_code.specs.Searching.{AreRows, IsNear, row_at, successors, visit_one, visit_all}
 use Rattle.pt_code.proofs.Parts.{flat_map-more, flat_map-split, take-front}
 use Rattle.pt_code.proofs.Queue.{Met, Met-end, Met-step, Met-within, first_places-visits}

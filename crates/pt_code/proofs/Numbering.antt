@@ -9,9 +9,9 @@ use Rattle.std.proofs.lemmas.List.{get_or_append_left}
 use Rattle.std.proofs.lemmas.List.Folds.{list_any_at}
 use Rattle.std.proofs.lemmas.List.Sums.{position_or_len_is}
 use Rattle.std.proofs.Math.Seq.{get_or-append_seam}
-use Rattle.pt_sets.proofs.Members.{In, In-get_or, In-position}
-use Rattle.pt_sets.proofs.Pigeonhole.{injective-le}
-use Rattle.pt_sets.proofs.ReadBack.{bool-cases}
+use Rattle.pt_base.proofs.Members.{In, In-get_or, In-position}
+use Rattle.pt_base.proofs.Pigeonhole.{injective-le}
+use Rattle.pt_known.proofs.ReadBack.{bool-cases}
 use Rattle.pt_code.specs.Searching.{IsNumbered, visit_one}
 
 equal-test : (q r : ℕ) → q ≡ r → (q == r) ≡ true

@@ -4,10 +4,10 @@ use Rattle.std.specs.Prelude.{◌==◌}
 use Rattle.std.specs.List.{position_or_len, range_with_len}
 use Rattle.std.proofs.lemmas.List.{ext_get_or}
 use Rattle.std.proofs.lemmas.List.FromFn.{length-map-range_with_len, get_or-map-range_with_len}
-use Rattle.pt_sets.specs.Components.{Component, IsComponent, IsStronglyConnected, states_in_order}
-use Rattle.pt_sets.proofs.Isomorphic.{search_order-within}
-use Rattle.pt_sets.proofs.Members.{In-AllOf, In-get_or, In-position}
-use Rattle.pt_sets.proofs.SearchOrder.{order-length, order-complete}
+use Rattle.pt_known.specs.Components.{Component, IsComponent, IsStronglyConnected, states_in_order}
+use Rattle.pt_known.proofs.Isomorphic.{search_order-within}
+use Rattle.pt_base.proofs.Members.{In-AllOf, In-get_or, In-position}
+use Rattle.pt_known.proofs.SearchOrder.{order-length, order-complete}
 use Rattle.pt_code.specs.Coding.{numbers_from}
 
 module _ (p : Component) (in_p : IsComponent p) (connected : IsStronglyConnected p) (entry : ℕ) (in_range : entry < p.states) where

@@ -4,15 +4,15 @@ use Rattle.std.specs.Prelude.{◌==◌}
 use Rattle.std.specs.List.{filter, flat_map, range_with_len, list_any}
 use Rattle.std.proofs.lemmas.List.{append-nil, take_more, take_all, take-append-le, take-append-drop}
 use Rattle.std.proofs.lemmas.Grind.{flat_map-append}
-use Rattle.pt_sets.specs.Components.{Component, IsComponent, IsStronglyConnected, near_states, edges_from, states_in_order}
-use Rattle.pt_sets.specs.Elements.{first_places}
-use Rattle.pt_sets.proofs.Mapping.{AllOf, AllOf-flat_map, AllOf-first_places}
-use Rattle.pt_sets.proofs.Members.{In-AllOf, In-get_or, Distinct-first_places, Distinct-injective, Distinct}
-use Rattle.pt_sets.proofs.Pigeonhole.{injective-le}
-use Rattle.pt_sets.proofs.Isomorphic.{near_states-within, edges_from-within}
-use Rattle.pt_sets.proofs.FirstPlaces.{first_places-append, first_places-visit}
-use Rattle.pt_sets.proofs.SearchOrder.{order-closed}
-use Rattle.pt_sets.proofs.Searching.{is-search_order}
+use Rattle.pt_known.specs.Components.{Component, IsComponent, IsStronglyConnected, near_states, edges_from, states_in_order}
+use Rattle.pt_base.specs.Elements.{first_places}
+use Rattle.pt_base.proofs.Mapping.{AllOf, AllOf-flat_map, AllOf-first_places}
+use Rattle.pt_base.proofs.Members.{In-AllOf, In-get_or, Distinct-first_places, Distinct-injective, Distinct}
+use Rattle.pt_base.proofs.Pigeonhole.{injective-le}
+use Rattle.pt_known.proofs.Isomorphic.{near_states-within, edges_from-within}
+use Rattle.pt_base.proofs.FirstPlaces.{first_places-append, first_places-visit}
+use Rattle.pt_known.proofs.SearchOrder.{order-closed}
+use Rattle.pt_known.proofs.Searching.{is-search_order}
 use Rattle.pt_code.specs.Searching.{visit_all}
 
 -- a part of a list by index

@@ -1,9 +1,9 @@
 -- Rings are strongly connected.
 use Rattle.std.proofs.Common.{◌≡◌, ℕ, zero, suc, ◌+◌, ◌-◌, ◌<◌, ◌≤◌, subst, arith}
-use Rattle.pt_sets.specs.declared.Edge.TheVariants.{Near}
+use Rattle.pt_known.specs.declared.Edge.TheVariants.{Near}
 use Rattle.pt_sets.specs.Automata.{Reaches, Reaches.here, Reaches.further}
 use Rattle.pt_sets.specs.Words.{IsLetter}
-use Rattle.pt_sets.specs.Components.{Component, IsNearEdge, IsStronglyConnected, edge_at}
+use Rattle.pt_known.specs.Components.{Component, IsNearEdge, IsStronglyConnected, edge_at}
 
 module _ (p : Component) (letter : ℕ) (fits : IsLetter p.tracks letter) (some : 0 < p.states)
     (forward : (q : ℕ) → q + 1 < p.states → edge_at p q letter ≡ Near (q + 1)) (back : (q : ℕ) → q + 1 ≡ p.states → edge_at p q letter ≡ Near 0) where

@@ -3,12 +3,12 @@ use Rattle.std.proofs.Common.{◌≡◌, ℕ, ◌<◌, List, ◌∷◌, ◌++◌
 use Rattle.std.specs.Prelude.{◌==◌}
 use Rattle.std.specs.List.{flat_map, position_or_len}
 use Rattle.std.proofs.lemmas.List.FromFn.{length-map-range_with_len, get_or-map-range_with_len}
-use Rattle.pt_sets.specs.declared.Exit.{Exit}
-use Rattle.pt_sets.specs.declared.Edge.{Edge}
-use Rattle.pt_sets.specs.declared.Edge.TheVariants.{Near, Far}
-use Rattle.pt_sets.specs.Components.{Component, StaysWithin, IsComponent, edge_number, edges_from, exit_numbers, exits_in_order, states_in_order, code_from}
-use Rattle.pt_sets.proofs.Mapping.{map-same, flat_map-same}
-use Rattle.pt_sets.proofs.Isomorphic.{edges_from-within, search_order-within}
+use Rattle.pt_known.specs.declared.Exit.{Exit}
+use Rattle.pt_known.specs.declared.Edge.{Edge}
+use Rattle.pt_known.specs.declared.Edge.TheVariants.{Near, Far}
+use Rattle.pt_known.specs.Components.{Component, StaysWithin, IsComponent, edge_number, edges_from, exit_numbers, exits_in_order, states_in_order, code_from}
+use Rattle.pt_base.proofs.Mapping.{map-same, flat_map-same}
+use Rattle.pt_known.proofs.Isomorphic.{edges_from-within, search_order-within}
 use Rattle.pt_code.specs.Coding.{numbers_from}
 use Rattle.pt_code.specs.Parts.{header_of, outputs_part, edges_part, number_in}
 

@@ -3,10 +3,10 @@ use Rattle.std.proofs.Common.{◌≡◌, ℕ, ◌+◌, ◌^◌, ◌<◌, List, �
 use Rattle.std.specs.List.{flat_map}
 use Rattle.std.proofs.lemmas.List.FromFn.{length-map-range_with_len}
 use Rattle.indexmap.specs.IndexSet.{insert_all}
-use Rattle.pt_sets.specs.declared.Exit.{Exit}
-use Rattle.pt_sets.specs.Components.{Component, far_exits, exit_eq, edges_from, edge_at, exits_in_order}
-use Rattle.pt_sets.specs.Elements.{first_places}
-use Rattle.pt_sets.proofs.ReadBack.{exit_eq-same, exit_eq-refl}
+use Rattle.pt_known.specs.declared.Exit.{Exit}
+use Rattle.pt_known.specs.Components.{Component, far_exits, exit_eq, edges_from, edge_at, exits_in_order}
+use Rattle.pt_base.specs.Elements.{first_places}
+use Rattle.pt_known.proofs.ReadBack.{exit_eq-same, exit_eq-refl}
 use Rattle.pt_code.specs.Parts.{number_in, edges_part}
 use Rattle.pt_code.proofs.Exits.{first_places-inserts, inserts-more}
 use Rattle.pt_code.proofs.Parts.{flat_map-more, written-more}

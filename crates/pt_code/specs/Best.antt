@@ -1,7 +1,7 @@
 -- The best entry so far, and searches that are compared with it.
 use Rattle.std.specs.Prelude.{◌≡◌, ℕ, ◌<◌, ◌≤◌, ◌++◌, ◌==◌, List, ◌∷◌, false, flat_map, length, take, slice_index, slice_index_or}
-use Rattle.pt_sets.specs.Components.{Component, edges_from, near_states, states_in_order}
-use Rattle.pt_sets.specs.Elements.{first_places}
+use Rattle.pt_known.specs.Components.{Component, edges_from, near_states, states_in_order}
+use Rattle.pt_base.specs.Elements.{first_places}
 use Rattle.pt_code.specs.declared.rows.Best.{Best}
 use Rattle.pt_code.specs.declared.shape.Shape.{Shape}
 use Rattle.pt_code.specs.Limiting.{AreLimits}

@@ -1,6 +1,6 @@
 -- How soon a search meets a high state.
 use Rattle.std.specs.Prelude.{◌≡◌, ℕ, ◌+◌, ◌*◌, ◌<◌, ◌≤◌, List, Bool, true, false, slice_index, slice_index_or}
-use Rattle.pt_sets.specs.Components.{Component, states_in_order}
+use Rattle.pt_known.specs.Components.{Component, states_in_order}
 use Rattle.pt_code.specs.declared.bounds.Bound.{Bound}
 
 -- wherever a search stands that comes to the state at a place n, it meets a high state at a place of at most n * weight + offset

@@ -1,7 +1,7 @@
 -- What the least code of a component comes with.
 use Rattle.std.specs.Prelude.{◌≡◌, ◌≢◌, ℕ, ◌<◌, ◌==◌, List, map, slice_index}
 use Rattle.std.specs.List.{position_or_len, range_with_len}
-use Rattle.pt_sets.specs.Components.{Component, component_of, HasShape, IsLeastCode, code_from, states_in_order, IsComponent, IsStronglyConnected, IsIsomorphism}
+use Rattle.pt_known.specs.Components.{Component, component_of, HasShape, IsLeastCode, code_from, states_in_order, IsComponent, IsStronglyConnected, IsIsomorphism}
 
 -- the number of each state in the code from an entry
 abbrev pub numbers_from : Component → ℕ → List ℕ

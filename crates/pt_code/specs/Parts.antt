@@ -5,10 +5,10 @@ use Rattle.std.specs.Ordering.{nat_cmp}
 use Rattle.std.specs.Cmp.Lexicographic.{slice_cmp}
 use Rattle.std.specs.declared.cmp.Ordering.{Ordering}
 use Rattle.std.specs.declared.cmp.Ordering.TheVariants.{Equal, Greater}
-use Rattle.pt_sets.specs.declared.Exit.{Exit}
-use Rattle.pt_sets.specs.declared.Edge.{Edge}
-use Rattle.pt_sets.specs.declared.Edge.TheVariants.{Near, Far}
-use Rattle.pt_sets.specs.Components.{Component, bit, outputs_from, edges_from, exit_eq, exit_numbers, code_from, edge_number, states_in_order, exits_in_order}
+use Rattle.pt_known.specs.declared.Exit.{Exit}
+use Rattle.pt_known.specs.declared.Edge.{Edge}
+use Rattle.pt_known.specs.declared.Edge.TheVariants.{Near, Far}
+use Rattle.pt_known.specs.Components.{Component, bit, outputs_from, edges_from, exit_eq, exit_numbers, code_from, edge_number, states_in_order, exits_in_order}
 
 abbrev pub header_of : Component → List ℕ
 header_of p = p.tracks ∷ p.states ∷ p.height ∷ []

@@ -1,6 +1,6 @@
 -- What is known of a component before its entries are compared.
 use Rattle.std.specs.Prelude.{◌≡◌, ℕ, ◌<◌, true, false, length, slice_index_or}
-use Rattle.pt_sets.specs.Components.{Component}
+use Rattle.pt_known.specs.Components.{Component}
 use Rattle.pt_code.specs.declared.shape.Shape.{Shape}
 use Rattle.pt_code.specs.Bounding.{AreBounds}
 use Rattle.pt_code.specs.Parts.{IsHighs}

@@ -1,8 +1,8 @@
 -- Two searches side by side.
 use Rattle.std.specs.Prelude.{◌≡◌, ℕ, ◌+◌, ◌≤◌, ◌++◌, List, map, length}
-use Rattle.pt_sets.specs.declared.Exit.{Exit}
-use Rattle.pt_sets.specs.declared.Edge.{Edge}
-use Rattle.pt_sets.specs.Components.{near_states, far_exits, exit_eq}
+use Rattle.pt_known.specs.declared.Exit.{Exit}
+use Rattle.pt_known.specs.declared.Edge.{Edge}
+use Rattle.pt_known.specs.Components.{near_states, far_exits, exit_eq}
 use Rattle.indexmap.specs.IndexSet.{insert_all}
 use Rattle.pt_code.specs.Parts.{number_by}
 use Rattle.pt_code.specs.Searching.{IsNumbered, visit_all}

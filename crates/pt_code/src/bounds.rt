@@ -1,6 +1,6 @@
 // Bounds on the places where searches meet high states.
 ghost use Rattle.std.specs.Prelude.{◌≡◌, ◌<◌, ◌≤◌, ◌⊎◌, ℕ, All, IfOk, cond, length, vec_len};
-ghost use Rattle.pt_sets.specs.Components.{Component, IsComponent, IsStronglyConnected};
+ghost use Rattle.pt_known.specs.Components.{Component, IsComponent, IsStronglyConnected};
 ghost use Rattle.pt_code.specs.Bounding.{AreBounds, IsByWay, IsBySome, nothing};
 ghost use Rattle.pt_code.specs.Component.{component};
 ghost use Rattle.pt_code.specs.Searching.{IsNear, successors};

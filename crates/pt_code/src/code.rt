@@ -4,10 +4,10 @@ ghost use Rattle.std.specs.Hash as fed;
 ghost use Rattle.std.proofs.Common.{rules};
 ghost use Rattle.std.specs.Cmp.Rules.{comparing, hashing};
 ghost use Rattle.std.specs.Cmp.Lexicographic.{pointwise};
-ghost use Rattle.pt_sets.specs.Components.{HasShape, tracks_of, states_of, height_of, output_of, target_of, edge_of, exit_of, exit_count, HasSizes};
+ghost use Rattle.pt_known.specs.Components.{HasShape, tracks_of, states_of, height_of, output_of, target_of, edge_of, exit_of, exit_count, HasSizes};
 
 use crate::fault::CodeFault;
-use pt_sets::{Edge, Exit, Place};
+use pt_known::{Edge, Exit, Place};
 use std::alloc::Global;
 use std::hash::{Hash, Hasher};
 use std::marker::Model;
@@ -22,7 +22,7 @@ pub struct Code {
 
 impl Model for Code {
     ghost use Rattle.std.specs.Prelude.{List, ℕ};
-    ghost use Rattle.pt_sets.specs.Components.{HasShape};
+    ghost use Rattle.pt_known.specs.Components.{HasShape};
 
     ghost Value = { List ℕ };
 

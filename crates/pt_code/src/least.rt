@@ -3,7 +3,7 @@ ghost use Rattle.std.specs.Prelude.{◌≡◌, ◌+◌, ◌<◌, IfOk, length, s
 ghost use Rattle.std.specs.Arc.{arc_value};
 ghost use Rattle.std.specs.Ordering.{nat_cmp};
 ghost use Rattle.std.specs.Cmp.Lexicographic.{slice_cmp};
-ghost use Rattle.pt_sets.specs.Components.{IsComponent, IsStronglyConnected, code_from, states_in_order};
+ghost use Rattle.pt_known.specs.Components.{IsComponent, IsStronglyConnected, code_from, states_in_order};
 ghost use Rattle.pt_code.specs.Component.{component};
 ghost use Rattle.pt_code.specs.Coding.{IsCoding, IsomorphicComponentsHaveOneCode, CodesReadBackAreTheirComponents, numbers_from};
 ghost use Rattle.pt_code.specs.Best.{IsBest};

@@ -23,4 +23,4 @@ pub use least::{
     Coded, codes_read_back_are_their_components, isomorphic_components_have_one_code, least_code,
 };
 pub use piece::{Edges, Outputs, Piece};
-pub use pt_sets::{Edge, Exit, Place};
+pub use pt_known::{Edge, Exit, Place};

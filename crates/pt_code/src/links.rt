@@ -3,9 +3,9 @@ ghost use Rattle.std.specs.Prelude.{◌≡◌, ◌≢◌, ℕ, ◌+◌, ◌<◌,
 ghost use Rattle.std.specs.Ordering.{nat_cmp};
 ghost use Rattle.std.specs.Cmp.Lexicographic.{slice_cmp};
 ghost use Rattle.indexmap.specs.IndexSet.{insert_all};
-ghost use Rattle.pt_sets.specs.declared.Exit.{Exit};
-ghost use Rattle.pt_sets.specs.declared.Edge.{Edge};
-ghost use Rattle.pt_sets.specs.Components.{StaysWithin, IsComponent, IsStronglyConnected, near_states, far_exits, exit_eq};
+ghost use Rattle.pt_known.specs.declared.Exit.{Exit};
+ghost use Rattle.pt_known.specs.declared.Edge.{Edge};
+ghost use Rattle.pt_known.specs.Components.{StaysWithin, IsComponent, IsStronglyConnected, near_states, far_exits, exit_eq};
 ghost use Rattle.pt_code.specs.Component.{component};
 ghost use Rattle.pt_code.specs.Sides.{HasMet, numbers_of};
 ghost use Rattle.pt_code.specs.Parts.{number_by, exits_part, links_part};
@@ -17,7 +17,7 @@ use crate::piece::Piece;
 use crate::search::edges_of;
 use crate::writing::write_exits;
 use indexmap::IndexSet;
-use pt_sets::{Edge, Exit};
+use pt_known::{Edge, Exit};
 use std::alloc::Global;
 use std::cmp::Ordering;
 

@@ -1,6 +1,6 @@
 // The successors of states, each once.
 ghost use Rattle.std.specs.Prelude.{◌≡◌, ◌+◌, ◌<◌, ◌≤◌, false, IfOk, IsTrue, length, vec_len, slice_index, slice_range};
-ghost use Rattle.pt_sets.specs.Components.{IsComponent, IsStronglyConnected, states_in_order};
+ghost use Rattle.pt_known.specs.Components.{IsComponent, IsStronglyConnected, states_in_order};
 ghost use Rattle.pt_code.specs.Component.{component};
 ghost use Rattle.pt_code.specs.Limiting.{IsLate, IsSoon};
 ghost use Rattle.pt_code.specs.Searching.{AreRows, IsNear, IsNumbered, row_at, visit_all};

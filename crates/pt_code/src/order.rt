@@ -1,12 +1,12 @@
 // States in the order in which a search meets them.
 ghost use Rattle.std.specs.Prelude.{◌≡◌, ◌<◌, ◌≤◌, ◌⊎◌, ◌==◌, [], true, false, length, slice_index, vec_len, vec_capacity, All, IfOk, IsTrue, MatchOption};
 ghost use Rattle.std.specs.List.{list_any, position_or_len};
-ghost use Rattle.pt_sets.specs.Components.{StaysWithin, near_states};
+ghost use Rattle.pt_known.specs.Components.{StaysWithin, near_states};
 ghost use Rattle.pt_code.specs.Searching.{IsNumbered, visit_one, visit_all};
 ghost use Rattle.pt_code.specs.Limiting.{IsLate, IsSoon};
 
 use crate::fault::NoMemory;
-use pt_sets::Edge;
+use pt_known::Edge;
 use std::alloc::Global;
 
 /// States, each once, and the place of each among them. A state is there exactly if the place that is noted for it holds

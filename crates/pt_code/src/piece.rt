@@ -1,7 +1,7 @@
 // Components as they are handed in.
 ghost use Rattle.std.specs.Prelude.{◌≡◌};
 
-use pt_sets::Edge;
+use pt_known::Edge;
 use std::marker::Model;
 
 /// The outputs of a component, a row of `2^tracks` for each state.
@@ -43,7 +43,7 @@ pub struct Edges {
 
 impl Model for Edges {
     ghost use Rattle.std.specs.Prelude.{List};
-    ghost use Rattle.pt_sets.specs.declared.Edge.{Edge};
+    ghost use Rattle.pt_known.specs.declared.Edge.{Edge};
 
     ghost Value = { List Edge };
 

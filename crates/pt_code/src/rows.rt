@@ -2,7 +2,7 @@
 ghost use Rattle.std.specs.Prelude.{◌≡◌, ◌≢◌, ℕ, ◌<◌, ◌≤◌, ◌++◌, List, false, IsTrue, IfOk, All, length, vec_len, slice_index, slice_index_or};
 ghost use Rattle.std.specs.Ordering.{nat_cmp, is_gt};
 ghost use Rattle.std.specs.Cmp.Lexicographic.{slice_cmp};
-ghost use Rattle.pt_sets.specs.Components.{IsComponent, IsStronglyConnected, states_in_order};
+ghost use Rattle.pt_known.specs.Components.{IsComponent, IsStronglyConnected, states_in_order};
 ghost use Rattle.pt_code.specs.Best.{HasMetRun, IsBest};
 ghost use Rattle.pt_code.specs.Component.{component};
 ghost use Rattle.pt_code.specs.Parts.{IsHighs, IsVerdict, row_of, outputs_part};

@@ -1,10 +1,10 @@
 // The rows of a state.
 ghost use Rattle.std.specs.Prelude.{◌≡◌, ◌<◌, ◌≤◌, ◌^◌, All};
-ghost use Rattle.pt_sets.specs.Components.{StaysWithin, IsComponent, edges_from, outputs_from};
+ghost use Rattle.pt_known.specs.Components.{StaysWithin, IsComponent, edges_from, outputs_from};
 ghost use Rattle.pt_code.specs.Component.{component};
 
 use crate::piece::Piece;
-use pt_sets::Edge;
+use pt_known::Edge;
 
 /// How many letters there are.
 fn letter_count(tracks: u32) -> usize

@@ -1,6 +1,6 @@
 // What is known of a component before its entries are compared.
 ghost use Rattle.std.specs.Prelude.{IfOk};
-ghost use Rattle.pt_sets.specs.Components.{IsComponent, IsStronglyConnected};
+ghost use Rattle.pt_known.specs.Components.{IsComponent, IsStronglyConnected};
 ghost use Rattle.pt_code.specs.Component.{component};
 ghost use Rattle.pt_code.specs.Shapes.{IsShape};
 

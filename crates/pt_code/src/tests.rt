@@ -1,6 +1,6 @@
 // Worked codes, and least codes against the definition computed plainly.
 ghost use Rattle.std.specs.Prelude.{◌≡◌, ◌+◌, ◌*◌, ◌^◌, ◌<◌, ◌≤◌, ℕ, All, length, slice_index_or, IsTrue, IfOk};
-ghost use Rattle.pt_sets.specs.Components.{StaysWithin, IsComponent, IsStronglyConnected};
+ghost use Rattle.pt_known.specs.Components.{StaysWithin, IsComponent, IsStronglyConnected};
 ghost use Rattle.pt_code.specs.Component.{component};
 
 use crate::{CodeFault, Edge, Edges, Exit, NoMemory, Outputs, Piece, Place, least_code, read_code};

@@ -1,7 +1,7 @@
 // The parts of a code.
 ghost use Rattle.std.specs.Prelude.{◌≡◌, ℕ, ◌+◌, ◌<◌, ◌≤◌, ◌^◌, ◌∷◌, ◌++◌, [], List, map, length, flat_map, All, IfOk, OnOk, true, false, option_map};
-ghost use Rattle.pt_sets.specs.declared.Exit.{Exit};
-ghost use Rattle.pt_sets.specs.Components.{StaysWithin, IsComponent, IsStronglyConnected, bit, exit_numbers, far_exits, exit_eq, states_in_order, exits_in_order, code_from};
+ghost use Rattle.pt_known.specs.declared.Exit.{Exit};
+ghost use Rattle.pt_known.specs.Components.{StaysWithin, IsComponent, IsStronglyConnected, bit, exit_numbers, far_exits, exit_eq, states_in_order, exits_in_order, code_from};
 ghost use Rattle.indexmap.specs.IndexSet.{insert_all};
 ghost use Rattle.pt_code.specs.Component.{component};
 ghost use Rattle.pt_code.specs.Coding.{numbers_from};
@@ -12,7 +12,7 @@ use crate::order::Order;
 use crate::piece::Piece;
 use crate::search::{edges_of, outputs_of};
 use indexmap::IndexSet;
-use pt_sets::{Edge, Exit};
+use pt_known::{Edge, Exit};
 use std::alloc::Global;
 
 /// The numbers before the outputs.

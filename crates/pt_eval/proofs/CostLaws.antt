@@ -2,20 +2,20 @@
 use Rattle.std.proofs.Common.{ℕ, ◌≤◌, inl, inr, List, [], ◌∷◌, length, sym, subst, ◌∙◌}
 use Rattle.std.specs.List.{AllByRecursion}
 use Rattle.std.proofs.lemmas.Bool.{cases_lt}
-use Rattle.pt_sets.specs.Elements.{AnyByRecursion}
+use Rattle.pt_base.specs.Elements.{AnyByRecursion}
 use Rattle.pt_sets.specs.Words.{Vector, AreLetters, after_digits}
 use Rattle.pt_sets.specs.Sets.{SameSet}
 use Rattle.pt_sets.specs.Costs.{CostWithin, CostIs, IsEquivalence, SameResidual}
 use Rattle.pt_sets.proofs.Digits.{length-after_digits}
 use Rattle.pt_sets.proofs.Counting.{SameSet-sym, costs-exclude, is-above, above-moved, residual-equivalence, pair-equivalence, family-equivalence}
-use Rattle.pt_sets.specs.Lists.{Lists, Home}
+use Rattle.pt_known.specs.Lists.{Lists, Home}
 use Rattle.pt_handles.specs.declared.handle.Handle.{Handle}
 use Rattle.pt_handles.specs.Handles.{SetOfHandle}
 use Rattle.pt_handles.specs.declared.fault.TableFault.{TableFault}
 use Rattle.pt_handles.specs.declared.fault.TableFault.TheVariants.{States, NoMemory}
 use Rattle.pt_handles.specs.Refusing.{StatesOnlyAbove}
 use Rattle.pt_formula.specs.declared.node.Node.{Node}
-use Rattle.pt_formula.specs.declared.node.Position.{Position}
+use Rattle.pt_base.specs.declared.Position.{Position}
 use Rattle.pt_formula.specs.Formulas.{tree_of, variables_of}
 use Rattle.pt_formula.specs.Truth.{Tree, True, False, Atom, Not, And, Or, Iff, Xor, Exists, Solutions, free_variables}
 use Rattle.pt_formula.specs.Costs.{SameValue, TreeCostAbove, TreeCostWithin, Restricts, solutions_within}

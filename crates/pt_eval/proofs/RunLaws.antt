@@ -7,9 +7,9 @@ use Rattle.std.proofs.lemmas.Bool.{cases_lt, cases_eq}
 use Rattle.std.proofs.lemmas.Option.{slice_get-get_or}
 use Rattle.std.proofs.lemmas.List.Sums.{sum_by-cons, sum_by-take-le}
 use Rattle.std.proofs.Math.Nat.{mul-le-mul_left}
-use Rattle.pt_sets.specs.Elements.{ContainsByRecursion}
+use Rattle.pt_base.specs.Elements.{ContainsByRecursion}
 use Rattle.pt_sets.specs.Sets.{SameSet}
-use Rattle.pt_sets.specs.Lists.{Lists, Home, Extends}
+use Rattle.pt_known.specs.Lists.{Lists, Home, Extends}
 use Rattle.pt_sets.proofs.Counting.{SameSet-trans}
 use Rattle.pt_store.specs.declared.fault.StoreFault.{StoreFault}
 use Rattle.pt_store.specs.declared.fault.StoreFault.TheVariants as store
@@ -17,7 +17,7 @@ use Rattle.pt_handles.specs.declared.handle.Handle.{Handle}
 use Rattle.pt_handles.specs.Handles.{Has, SetOfHandle}
 use Rattle.pt_handles.specs.Laws.{LongerListsKnow}
 use Rattle.pt_formula.specs.declared.node.Node.{Node}
-use Rattle.pt_formula.specs.declared.node.Position.{Position}
+use Rattle.pt_base.specs.declared.Position.{Position}
 use Rattle.pt_formula.specs.Truth.{Solutions}
 use Rattle.pt_formula.specs.Formulas.{tree_of, variables_of}
 use Rattle.pt_formula.specs.Costs.{IsReached, IsCostly, IsRefused, NoneRefused}

@@ -6,20 +6,20 @@ use Rattle.std.specs.Global.{Vec}
 use Rattle.std.proofs.lemmas.List.Elements.{All-from_get_or, All-head, All-tail}
 use Rattle.std.proofs.lemmas.List.Sorted.{IsPermutation-sym}
 use Rattle.std.proofs.lemmas.List.Sums.{sum_by-cons}
-use Rattle.pt_sets.specs.Elements.{ContainsByRecursion}
-use Rattle.pt_sets.specs.Lists.{Lists, Home, Extends}
+use Rattle.pt_base.specs.Elements.{ContainsByRecursion}
+use Rattle.pt_known.specs.Lists.{Lists, Home, Extends}
 use Rattle.pt_store.specs.declared.fault.StoreFault.{StoreFault}
 use Rattle.pt_store.specs.declared.fault.StoreFault.TheVariants as store
 use Rattle.pt_workers.specs.Works.{RefusesOnly, Some_of}
 use Rattle.pt_formula.specs.declared.node.Node.{Node}
-use Rattle.pt_formula.specs.declared.node.Position.{Position}
+use Rattle.pt_base.specs.declared.Position.{Position}
 use Rattle.pt_eval.specs.declared.outcome.Outcome.{Outcome}
 use Rattle.pt_eval.specs.declared.outcome.Outcome.TheVariants.{Pending}
 use Rattle.pt_eval.specs.Evaluating.{IsCheap, LacksSolutions}
 use Rattle.pt_eval.specs.Levels.{row_of, IsPlanned, AreOrdered}
 use Rattle.pt_eval.specs.Outcomes.{AreOutcomes, AreResults, AreWritten, IsResult, IsSettled, MayBegin, RefusesWhere, outcome_at}
 use Rattle.pt_eval.proofs.ReachLaws.{contains-from, contains-moved}
-use Rattle.pt_sets.proofs.ListLaws.{Extends-trans}
+use Rattle.pt_known.proofs.ListLaws.{Extends-trans}
 use Rattle.pt_handles.specs.Laws.{LongerListsKnow}
 use Rattle.pt_eval.proofs.RunLaws.{IsDoneBefore, level-ready, outcome-longer, outcomes-longer, written-more}
 

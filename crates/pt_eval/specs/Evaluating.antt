@@ -1,12 +1,12 @@
 -- What an evaluation of a formula's nodes gives, and why it refuses.
 use Rattle.std.specs.Prelude.{◌≡◌, ℕ, ◌<◌, List, length, slice_get, slice_index, Some}
 use Rattle.pt_sets.specs.Costs.{CostWithin, SameResidual}
-use Rattle.pt_sets.specs.Lists.{Lists, Home, list_of}
-use Rattle.pt_sets.specs.Known.{Lacks}
+use Rattle.pt_known.specs.Lists.{Lists, Home, list_of}
+use Rattle.pt_known.specs.Known.{Lacks}
 use Rattle.pt_handles.specs.declared.handle.Handle.{Handle}
 use Rattle.pt_handles.specs.Handles.{Has}
 use Rattle.pt_formula.specs.declared.node.Node.{Node}
-use Rattle.pt_formula.specs.declared.node.Position.{Position}
+use Rattle.pt_base.specs.declared.Position.{Position}
 use Rattle.pt_formula.specs.Truth.{Solutions}
 use Rattle.pt_formula.specs.Formulas.{tree_of, variables_of}
 use Rattle.pt_formula.specs.Costs.{Reaches, IsReached, IsRefused, TreeCostWithin}

@@ -1,15 +1,15 @@
 -- What handles of solutions are good for.
 use Rattle.std.specs.Prelude.{ℕ, List, length}
 use Rattle.std.specs.List.{AllByRecursion}
-use Rattle.pt_sets.specs.Elements.{ContainsByRecursion}
+use Rattle.pt_base.specs.Elements.{ContainsByRecursion}
 use Rattle.pt_sets.specs.Sets.{SameSet}
 use Rattle.pt_sets.specs.Costs.{CostWithin, SameResidual}
 use Rattle.pt_sets.specs.Restricting.{IsTrackMap, widened}
-use Rattle.pt_sets.specs.Lists.{Lists, Home}
+use Rattle.pt_known.specs.Lists.{Lists, Home}
 use Rattle.pt_handles.specs.declared.handle.Handle.{Handle}
 use Rattle.pt_handles.specs.Handles.{SetOfHandle}
 use Rattle.pt_formula.specs.declared.node.Node.{Node}
-use Rattle.pt_formula.specs.declared.node.Position.{Position}
+use Rattle.pt_base.specs.declared.Position.{Position}
 use Rattle.pt_formula.specs.Forms.{IsIncreasing}
 use Rattle.pt_formula.specs.Truth.{Tree, Solutions, Widened, free_variables}
 use Rattle.pt_formula.specs.Costs.{IsRefused, NoneRefused}

@@ -1,9 +1,9 @@
 -- The nodes that roots reach, by their levels: a leaf has level 0, another node one more than its highest child.
 use Rattle.std.specs.Prelude.{◌≡◌, ◌⊎◌, ◌↔◌, ℕ, zero, suc, ◌+◌, ◌<◌, ◌≤◌, max, List, [], ◌∷◌, length, map, slice_get, sum_by, Option, Some, None}
 use Rattle.std.specs.Global.{Vec}
-use Rattle.pt_sets.specs.Elements.{ContainsByRecursion}
+use Rattle.pt_base.specs.Elements.{ContainsByRecursion}
 use Rattle.pt_formula.specs.declared.node.Node.{Node}
-use Rattle.pt_formula.specs.declared.node.Position.{Position}
+use Rattle.pt_base.specs.declared.Position.{Position}
 use Rattle.pt_formula.specs.Forms.{IsIncreasing}
 use Rattle.pt_formula.specs.Formulas.{node_at, children}
 use Rattle.pt_formula.specs.Costs.{IsReached}

@@ -1,13 +1,13 @@
 -- What is known of a node while a formula is evaluated.
 use Rattle.std.specs.Prelude.{◌≡◌, ◌⊎◌, ℕ, ◌<◌, ◌≤◌, List, length, nat_eq, slice_index, slice_index_or, unwrap_or}
 use Rattle.std.specs.HashMap.{HashMap, get}
-use Rattle.pt_sets.specs.Elements.{ContainsByRecursion}
-use Rattle.pt_sets.specs.Lists.{Lists, Home}
+use Rattle.pt_base.specs.Elements.{ContainsByRecursion}
+use Rattle.pt_known.specs.Lists.{Lists, Home}
 use Rattle.pt_store.specs.declared.fault.StoreFault.{StoreFault}
 use Rattle.pt_store.specs.declared.fault.StoreFault.TheVariants.{Full, NoMemory}
 use Rattle.pt_handles.specs.declared.handle.Handle.{Handle}
 use Rattle.pt_formula.specs.declared.node.Node.{Node}
-use Rattle.pt_formula.specs.declared.node.Position.{Position}
+use Rattle.pt_base.specs.declared.Position.{Position}
 use Rattle.pt_formula.specs.Formulas.{node_at, children, tree_of}
 use Rattle.pt_formula.specs.Costs.{IsBelow, IsCostly, TreeCostWithin}
 use Rattle.pt_eval.specs.Evaluating.{IsCheap, HasSolutions, HasFewResiduals, LacksSolutions, IsFullAt}

@@ -1,8 +1,8 @@
 // Evaluation of the roots of a formula.
 ghost use Rattle.std.specs.Prelude.{◌≡◌, ◌≢◌, ◌↔◌, ℕ, ◌+◌, ◌*◌, ◌<◌, ◌≤◌, length, map, slice_get, slice_index, Some, IfOk, IfErr, OnOk, IfSome, IfNone};
 ghost use Rattle.std.specs.List.{AllByRecursion};
-ghost use Rattle.pt_sets.specs.Elements.{ContainsByRecursion};
-ghost use Rattle.pt_sets.specs.Lists.{Extends};
+ghost use Rattle.pt_base.specs.Elements.{ContainsByRecursion};
+ghost use Rattle.pt_known.specs.Lists.{Extends};
 ghost use Rattle.pt_formula.specs.Forms.{IsIncreasing};
 ghost use Rattle.pt_formula.specs.Costs.{NoneRefused};
 ghost use Rattle.pt_handles.specs.declared.handle.Handle.{Handle as HandleValue};

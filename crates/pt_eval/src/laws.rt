@@ -1,7 +1,7 @@
 // Laws of refused nodes, and of handles of solutions.
 ghost use Rattle.std.specs.Prelude.{◌≡◌, ℕ, List};
 ghost use Rattle.pt_formula.specs.declared.node.Node.{Node as NodeValue};
-ghost use Rattle.pt_formula.specs.declared.node.Position.{Position as PositionValue};
+ghost use Rattle.pt_base.specs.declared.Position.{Position as PositionValue};
 ghost use Rattle.pt_formula.specs.Costs.{IsRefused};
 ghost use Rattle.pt_eval.specs.Laws.{RefusalsHaveACause, SolutionsAreOverTheirVariables, TracksAreMaps, TracksWidenSolutions, HandlesHaveFewResiduals};
 

@@ -1,7 +1,7 @@
 // Evaluation of one node, from the outcomes of its children.
 ghost use Rattle.std.specs.Prelude.{◌≡◌, ◌+◌, ◌<◌, ◌≤◌, length, IfOk, IfErr, IfSome, IfNone};
 ghost use Rattle.pt_sets.specs.Automata.{IsReduced};
-ghost use Rattle.pt_sets.specs.Lists.{Extends};
+ghost use Rattle.pt_known.specs.Lists.{Extends};
 ghost use Rattle.pt_formula.specs.declared.node.Node.TheVariants.{Not as NotNode, Exists as ExistsNode};
 ghost use Rattle.pt_formula.specs.Formulas.{node_at, op_node, tree_of};
 ghost use Rattle.pt_eval.specs.Outcomes.{AreOutcomes, HasSettledChildren, IsCheapBelow, IsRefusal, IsResult, IsSettled, RefusesWhere, known, outcome_in};

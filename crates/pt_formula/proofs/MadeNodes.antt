@@ -3,7 +3,7 @@ use Rattle.std.proofs.Common.{◌≡◌, ℕ, ◌<◌, Bool, true, false, nat_lt
 use Rattle.std.proofs.lemmas.Bool.Decides.{nat_tests}
 use Rattle.std.specs.List.{AllByRecursion}
 use Rattle.pt_formula.specs.declared.node.Node.{Node}
-use Rattle.pt_formula.specs.declared.node.Position.{Position}
+use Rattle.pt_base.specs.declared.Position.{Position}
 use Rattle.pt_formula.specs.declared.fault.FormulaFault.{FormulaFault}
 use Rattle.pt_formula.specs.declared.fault.FormulaFault.TheVariants.{Tracks, Nodes}
 use Rattle.pt_formula.specs.declared.TheConstants.{MAX_TRACKS, MAX_NODES}

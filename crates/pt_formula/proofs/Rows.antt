@@ -1,6 +1,6 @@
 -- Examples: they compute, so the definitions say what is meant.
 use Rattle.std.specs.Prelude.{◌≡◌, List, [], ◌∷◌, ◌++◌, pos, refl, Ok, Err}
-use Rattle.pt_formula.specs.declared.node.Position.{Position}
+use Rattle.pt_base.specs.declared.Position.{Position}
 use Rattle.pt_formula.specs.declared.node.Node.{Node}
 use Rattle.pt_formula.specs.declared.node.Node.TheVariants.{Atom, And, Exists}
 use Rattle.pt_atoms.specs.declared.Kind.TheVariants.{Eq, Le}

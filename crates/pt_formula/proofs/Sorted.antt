@@ -9,7 +9,7 @@ use Rattle.pt_formula.specs.declared.Op.{Op}
 use Rattle.pt_formula.specs.declared.Op.TheVariants as op
 use Rattle.pt_formula.specs.declared.node.Node.{Node}
 use Rattle.pt_formula.specs.declared.node.Node.TheVariants as node
-use Rattle.pt_formula.specs.declared.node.Position.{Position}
+use Rattle.pt_base.specs.declared.Position.{Position}
 use Rattle.pt_formula.specs.Forms.{IsIncreasing}
 use Rattle.pt_formula.specs.Truth.{Tree, insert_var, union, without, free_variables}
 use Rattle.pt_formula.specs.Formulas.{node_at, entry_node, op_node, node_tree, tree_below, variables_of, HasTerms, IsFormula}

@@ -1,9 +1,9 @@
 -- The cost of a node, and the node that an evaluation refuses.
 use Rattle.std.specs.Prelude.{ℕ, suc, ◌+◌, ◌*◌, ◌/◌, ◌%◌, ◌^◌, ◌≤◌, ◌≡◌, ◌==◌, if◌then◌else◌, List, [], ◌∷◌, length, ℤ}
-use Rattle.pt_sets.specs.Elements.{AnyByRecursion, ContainsByRecursion}
+use Rattle.pt_base.specs.Elements.{AnyByRecursion, ContainsByRecursion}
 use Rattle.pt_sets.specs.Costs.{CostAbove, CostWithin, SameResidual, SamePair, SameFamily, RestrictsBy}
 use Rattle.pt_formula.specs.declared.node.Node.{Node}
-use Rattle.pt_formula.specs.declared.node.Position.{Position}
+use Rattle.pt_base.specs.declared.Position.{Position}
 use Rattle.pt_formula.specs.Truth.{Tree, And, Or, Iff, Xor, Exists, Solutions, Widened, free_variables}
 use Rattle.pt_formula.specs.Formulas.{node_at, tree_of, children}
 

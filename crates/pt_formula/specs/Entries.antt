@@ -1,7 +1,7 @@
 -- What is kept of a formula, and what contracts see of it.
 use Rattle.std.specs.Prelude.{ℕ, ◌≡◌, List, map, slice_get, Some}
 use Rattle.pt_formula.specs.declared.node.Node.{Node}
-use Rattle.pt_formula.specs.declared.node.Position.{Position}
+use Rattle.pt_base.specs.declared.Position.{Position}
 use Rattle.pt_formula.specs.declared.formula.Entry.{Entry}
 use Rattle.pt_formula.specs.Formulas.{IsFormula, variables_of}
 

@@ -3,7 +3,7 @@ use Rattle.std.specs.Prelude.{ℕ, zero, suc, ◌<◌, ◌≤◌, ◌≡◌, Boo
 use Rattle.std.specs.List.{AllByRecursion, list_any}
 use Rattle.pt_formula.specs.declared.node.Node.{Node}
 use Rattle.pt_formula.specs.declared.node.Node.TheVariants.{True, False, Atom, Not, And, Or, Iff, Xor, Exists}
-use Rattle.pt_formula.specs.declared.node.Position.{Position}
+use Rattle.pt_base.specs.declared.Position.{Position}
 use Rattle.pt_formula.specs.declared.Op.{Op}
 use Rattle.pt_formula.specs.declared.Op.TheVariants as op
 use Rattle.pt_formula.specs.declared.fault.FormulaFault.{FormulaFault}

@@ -6,7 +6,8 @@ ghost use Rattle.pt_formula.specs.Entries.{shown, AreEntries};
 
 use crate::fault::FormulaFault;
 use crate::formula::Entry;
-use crate::node::{Node, Position};
+use crate::node::Node;
+use pt_base::Position;
 use crate::variables::Variables;
 use crate::{MAX_NODES, MAX_TRACKS, NodeId};
 

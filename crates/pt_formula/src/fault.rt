@@ -1,7 +1,7 @@
 ghost use Rattle.std.specs.Prelude.{◌≡◌};
 ghost use Rattle.pt_formula.specs.declared.fault.FormulaFault.TheVariants as formula_fault;
 
-use crate::node::Position;
+use pt_base::Position;
 use pt_digits::NoMemory;
 use std::alloc::AllocFailed;
 

@@ -1,6 +1,7 @@
 use crate::append::append;
 use crate::fault::FormulaFault;
-use crate::node::{Node, Position};
+use crate::node::Node;
+use pt_base::Position;
 use crate::terms::Terms;
 use crate::variables::Variables;
 use crate::{Kind, NodeId, Op, Var};
@@ -26,7 +27,7 @@ pub struct Formula {
 impl Model for Formula {
     ghost use Rattle.std.specs.Prelude.{List};
     ghost use Rattle.pt_formula.specs.declared.node.Node.{Node};
-    ghost use Rattle.pt_formula.specs.declared.node.Position.{Position};
+    ghost use Rattle.pt_base.specs.declared.Position.{Position};
 
     ghost Value = { List (Node × Position) };
 

@@ -11,7 +11,7 @@ ghost use Rattle.pt_formula.specs.Sums.{form_sum, form_difference, form_scale, f
 ghost use Rattle.pt_formula.specs.Truth.{Tree, Atom as AtomTree, Exists as ExistsTree, Holds, Solutions, Widened, free_variables, valuation, updated};
 ghost use Rattle.pt_formula.specs.Oddness.{is_odd, truth_tree, AsksOddness, AgreeUpToOddness, AgreeUpToOddnessAt};
 ghost use Rattle.pt_formula.specs.declared.node.Node.{Node as NodeValue};
-ghost use Rattle.pt_formula.specs.declared.node.Position.{Position as PositionValue};
+ghost use Rattle.pt_base.specs.declared.Position.{Position as PositionValue};
 ghost use Rattle.pt_formula.specs.Formulas.{IsFormula, IsMade, HasTerms, made, children, node_at, position_at, tree_of, node_tree, variables_of};
 
 /// Nodes that are appended change no earlier node, nor its position, its tree and its variables.

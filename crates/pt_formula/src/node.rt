@@ -2,13 +2,6 @@ use crate::terms::Terms;
 use crate::{NodeId, Var};
 use pt_atoms::Kind;
 
-/// A place in a text, both from 1, the column in bytes.
-#[derive(Clone, Copy, Debug, PartialEq, Eq)]
-pub struct Position {
-    pub line: u32,
-    pub column: u32,
-}
-
 /// A node of a formula. Children are named by their numbers.
 #[derive(Drop)]
 pub enum Node {

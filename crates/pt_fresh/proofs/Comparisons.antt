@@ -8,7 +8,7 @@ use Rattle.pt_atoms.specs.declared.Kind.{Kind}
 use Rattle.pt_atoms.specs.declared.Kind.TheVariants.{Eq, Le, Mod}
 use Rattle.pt_atoms.specs.Atoms.{Compares, IsModulus}
 use Rattle.pt_formula.specs.declared.node.Node.TheVariants as node
-use Rattle.pt_formula.specs.declared.node.Position.{Position}
+use Rattle.pt_base.specs.declared.Position.{Position}
 use Rattle.pt_formula.specs.declared.form.Form.{Form}
 use Rattle.pt_formula.specs.Forms.{Monomial, AreTerms, is_zero}
 use Rattle.pt_formula.specs.Formulas.{IsFormula, tree_of, node_tree, truth_node}

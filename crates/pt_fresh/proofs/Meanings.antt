@@ -4,7 +4,7 @@ use Rattle.std.specs.Prelude.{ℤ}
 use Rattle.std.specs.List.{AllByRecursion}
 use Rattle.pt_formula.specs.declared.node.Node.{Node}
 use Rattle.pt_formula.specs.declared.node.Node.TheVariants as node
-use Rattle.pt_formula.specs.declared.node.Position.{Position}
+use Rattle.pt_base.specs.declared.Position.{Position}
 use Rattle.pt_formula.specs.Formulas.{IsFormula, IsMade, HasTerms, made, children, tree_of, node_tree}
 use Rattle.pt_formula.specs.Truth.{Holds}
 use Rattle.pt_fresh.specs.Making.{NodeList, make}

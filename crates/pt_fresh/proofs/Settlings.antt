@@ -2,9 +2,9 @@
 use Rattle.std.proofs.Common.{◌≡◌, ◌↔◌, ℕ, zero, suc, get_or, drop, drop-cons, ◌<◌, Bool, true, false, if◌then◌else◌, List, [], ◌∷◌, length, Ok, Err, arith, refl, sym, ap, subst, ◌∙◌}
 use Rattle.std.specs.Prelude.{ℤ}
 use Rattle.std.specs.List.{AllByRecursion}
-use Rattle.pt_sets.specs.Elements.{PairsByRecursion}
+use Rattle.pt_base.specs.Elements.{PairsByRecursion}
 use Rattle.pt_formula.specs.declared.node.Node.TheVariants as node
-use Rattle.pt_formula.specs.declared.node.Position.{Position}
+use Rattle.pt_base.specs.declared.Position.{Position}
 use Rattle.pt_formula.specs.Formulas.{IsFormula, made, tree_of, variables_of, contains}
 use Rattle.pt_formula.specs.Sums.{form_value}
 use Rattle.pt_formula.specs.Forms.{Monomial as Pair}

@@ -1,7 +1,7 @@
 -- The nodes that define a variable, and those that close a node over defined variables, in order of making.
 use Rattle.std.specs.Prelude.{ℕ, ◌^◌, nat_lt, if◌then◌else◌, List, [], ◌∷◌, ℤ, pos, negsuc, ◌-ℤ◌, unsigned_abs, Ok}
 use Rattle.pt_formula.specs.declared.node.Node.TheVariants as node
-use Rattle.pt_formula.specs.declared.node.Position.{Position}
+use Rattle.pt_base.specs.declared.Position.{Position}
 use Rattle.pt_formula.specs.declared.form.Form.{Form}
 use Rattle.pt_formula.specs.Formulas.{contains, variables_of}
 use Rattle.pt_formula.specs.Sums.{form_difference, form_scale}

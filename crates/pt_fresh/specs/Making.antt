@@ -1,7 +1,7 @@
 -- Steps that add nodes to a formula and that may be refused.
 use Rattle.std.specs.Prelude.{ℕ, if◌then◌else◌, List, [], ◌∷◌, ℤ, pos, Result, Ok, Err}
 use Rattle.pt_formula.specs.declared.node.Node.{Node}
-use Rattle.pt_formula.specs.declared.node.Position.{Position}
+use Rattle.pt_base.specs.declared.Position.{Position}
 use Rattle.pt_formula.specs.declared.form.Form.{Form}
 use Rattle.pt_formula.specs.declared.fault.FormulaFault.{FormulaFault}
 use Rattle.pt_formula.specs.declared.fault.FormulaFault.TheVariants as builder

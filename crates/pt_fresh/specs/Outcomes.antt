@@ -2,7 +2,7 @@
 use Rattle.std.specs.Prelude.{◌≡◌, ◌⊎◌, ◌≤◌, ◌++◌, length, Result, Ok, Err}
 use Rattle.pt_formula.specs.declared.form.FormFault.{FormFault}
 use Rattle.pt_formula.specs.declared.form.FormFault.TheVariants as form_fault
-use Rattle.pt_formula.specs.declared.node.Position.{Position}
+use Rattle.pt_base.specs.declared.Position.{Position}
 use Rattle.pt_fresh.specs.declared.fault.TermFault.{TermFault}
 use Rattle.pt_fresh.specs.declared.fault.TermFault.TheVariants.{Coefficient, Tracks, NoMemory}
 use Rattle.pt_fresh.specs.Making.{NodeList, Make}

@@ -4,7 +4,7 @@ use Rattle.std.specs.Int.{int_rem_euclid}
 use Rattle.pt_atoms.specs.declared.Kind.{Kind}
 use Rattle.pt_atoms.specs.declared.Kind.TheVariants.{Eq, Le, Mod}
 use Rattle.pt_formula.specs.declared.node.Node.TheVariants.{Atom}
-use Rattle.pt_formula.specs.declared.node.Position.{Position}
+use Rattle.pt_base.specs.declared.Position.{Position}
 use Rattle.pt_formula.specs.declared.form.Form.{Form}
 use Rattle.pt_formula.specs.Forms.{Monomial, is_zero}
 use Rattle.pt_formula.specs.Formulas.{truth_node}

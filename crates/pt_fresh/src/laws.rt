@@ -3,7 +3,7 @@
 
 ghost use Rattle.std.specs.Prelude.{◌≡◌, ◌≢◌, ◌↔◌, ◌⊎◌, ◌<◌, ◌^◌, false, ℕ, ℤ, pos, List, ◌++◌, length, unsigned_abs, Ok};
 ghost use Rattle.pt_formula.specs.declared.form.Form.{Form as FormValue};
-ghost use Rattle.pt_formula.specs.declared.node.Position.{Position as PositionValue};
+ghost use Rattle.pt_base.specs.declared.Position.{Position as PositionValue};
 ghost use Rattle.pt_formula.specs.Formulas.{IsFormula, tree_of, variables_of, contains};
 ghost use Rattle.pt_formula.specs.Forms.{AreTerms};
 ghost use Rattle.pt_formula.specs.Sums.{form_value};

@@ -1,7 +1,7 @@
 -- Nested lists, a layer at a time.
 use Rattle.std.proofs.Common.{◌≡◌, List, ap, sym, ◌∙◌}
 use Rattle.std.specs.Prelude.{Some, None}
-use Rattle.pt_formula.specs.declared.node.Position.{Position}
+use Rattle.pt_base.specs.declared.Position.{Position}
 use Rattle.pt_syntax.specs.declared.sexpr.Leaf.{Leaf}
 use Rattle.pt_syntax.specs.declared.sexpr.SExpr.{SExpr, out-SExpr, out-roll-SExpr}
 use Rattle.pt_syntax.specs.declared.sexpr.SExpr.TheOpen as layer

@@ -1,6 +1,6 @@
 -- Items that are missing.
 use Rattle.std.proofs.Common.{◌≡◌, ℕ, zero, suc, ◌<◌, List, [], ◌∷◌, drop, length, Option, Some, arith}
-use Rattle.pt_formula.specs.declared.node.Position.{Position}
+use Rattle.pt_base.specs.declared.Position.{Position}
 use Rattle.pt_syntax.specs.declared.sexpr.SExpr.{SExpr}
 use Rattle.pt_grammar.specs.declared.item_forms.ItemForm.{ItemForm}
 use Rattle.pt_grammar.specs.declared.item_forms.More.{More}

@@ -1,6 +1,6 @@
 -- Nested lists: the place of an expression, and its parts.
 use Rattle.std.specs.Prelude.{ℕ, List, [], Option, Some, None}
-use Rattle.pt_formula.specs.declared.node.Position.{Position}
+use Rattle.pt_base.specs.declared.Position.{Position}
 use Rattle.pt_syntax.specs.declared.sexpr.Leaf.{Leaf}
 use Rattle.pt_syntax.specs.declared.sexpr.Leaf.TheVariants.{Numeral, Text, Symbol, Keyword}
 use Rattle.pt_syntax.specs.declared.sexpr.SExpr.{SExpr, out-SExpr}

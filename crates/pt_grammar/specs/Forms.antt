@@ -1,7 +1,7 @@
 -- Forms of binders and annotations, checked before any part is elaborated. A refusal is always Syntax, so only its place is told.
 use Rattle.std.specs.Prelude.{Bool, true, false, ◌&&◌, ◌||◌, if◌then◌else◌, List, [], ◌∷◌, Option, Some, None, is_some}
 use Rattle.std.specs.List.{list_all}
-use Rattle.pt_formula.specs.declared.node.Position.{Position}
+use Rattle.pt_base.specs.declared.Position.{Position}
 use Rattle.pt_syntax.specs.declared.sexpr.SExpr.{SExpr}
 use Rattle.pt_grammar.specs.Exprs.{place_of, symbol_of, keyword_of, items_of}
 

@@ -5,7 +5,7 @@ use Rattle.pt_grammar.specs.declared.item_forms.More.{More}
 use Rattle.pt_grammar.specs.declared.item_forms.More.TheVariants.{Nothing, Maybe, Many}
 use Rattle.std.specs.Prelude.{nat_lt, Bool, true, false, not, ◌&&◌, ◌||◌, if◌then◌else◌, List, [], ◌∷◌, length, Option, Some, None, bytes_eq, codes, is_some}
 use Rattle.std.specs.List.{list_all}
-use Rattle.pt_formula.specs.declared.node.Position.{Position}
+use Rattle.pt_base.specs.declared.Position.{Position}
 use Rattle.pt_syntax.specs.declared.sexpr.SExpr.{SExpr}
 use Rattle.pt_grammar.specs.Words.{is_truth_name}
 use Rattle.pt_grammar.specs.Exprs.{place_of, symbol_of, numeral_of, keyword_of, text_of, items_of, name_of}

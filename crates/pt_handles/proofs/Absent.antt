@@ -1,24 +1,24 @@
 -- Sets that lists do not know: a component that the set reaches is not found.
 use Rattle.std.proofs.Common.{◌≡◌, ℕ, ◌<◌, List, Vec, ap, sym, ◌∙◌, subst, true, false, Bool, None, Some, Result, IfErr, Ok, Err, slice_index, slice_index_or}
-use Rattle.pt_sets.specs.declared.Exit.{Exit}
-use Rattle.pt_sets.specs.declared.Edge.{Edge}
-use Rattle.pt_sets.specs.declared.Edge.TheVariants.{Near}
+use Rattle.pt_known.specs.declared.Exit.{Exit}
+use Rattle.pt_known.specs.declared.Edge.{Edge}
+use Rattle.pt_known.specs.declared.Edge.TheVariants.{Near}
 use Rattle.pt_sets.specs.Words.{AreLetters}
 use Rattle.pt_sets.specs.Sets.{VectorSet, SameSet}
 use Rattle.pt_sets.specs.Languages.{Language, SameLanguage, quotient, KeepsSignExtension, SetOf}
 use Rattle.pt_sets.specs.Automata.{Automaton, Reaches.here, next_of, output_of, language_of, SetOfState}
-use Rattle.pt_sets.specs.Components.{Component, component_of, IsLeastCode}
-use Rattle.pt_sets.specs.Lists.{Lists, Home, find}
-use Rattle.pt_sets.specs.Known.{code_or_empty, language_in, Known}
-use Rattle.pt_sets.specs.Realizing.{Realizes}
+use Rattle.pt_known.specs.Components.{Component, component_of, IsLeastCode}
+use Rattle.pt_known.specs.Lists.{Lists, Home, find}
+use Rattle.pt_known.specs.Known.{code_or_empty, language_in, Known}
+use Rattle.pt_known.specs.Realizing.{Realizes}
 use Rattle.pt_sets.proofs.Acceptance.{same-sets}
 use Rattle.pt_sets.proofs.Languages.{SameLanguage-sym, SameLanguage-trans, quotient-same}
-use Rattle.pt_sets.proofs.Paths.{run_in}
-use Rattle.pt_sets.proofs.Canonical.{at}
-use Rattle.pt_sets.proofs.Isomorphic.{IsLeastCode-isomorphic, IsLeastCode-unique}
-use Rattle.pt_sets.proofs.Realized.{isomorphism}
+use Rattle.pt_known.proofs.Paths.{run_in}
+use Rattle.pt_known.proofs.Canonical.{at}
+use Rattle.pt_known.proofs.Isomorphic.{IsLeastCode-isomorphic, IsLeastCode-unique}
+use Rattle.pt_known.proofs.Realized.{isomorphism}
 use Rattle.pt_sets.proofs.Running.{language-run, state-keeps}
-use Rattle.pt_sets.proofs.Lacking.{language_in-run-quotient, Known-run, Known-keeps, Realizes-place}
+use Rattle.pt_known.proofs.Lacking.{language_in-run-quotient, Known-run, Known-keeps, Realizes-place}
 use Rattle.pt_sets.proofs.Counting.{SameSet-sym, SameSet-trans}
 use Rattle.pt_code.specs.Coding.{IsCoding}
 use Rattle.pt_handles.specs.declared.finding.Stop.{Stop}

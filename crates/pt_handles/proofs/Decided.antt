@@ -3,8 +3,8 @@ use Rattle.std.proofs.Common.{◌≡◌, ℕ, sym, subst}
 use Rattle.pt_sets.specs.Sets.{SameSet}
 use Rattle.pt_sets.specs.Languages.{Language, SetOf}
 use Rattle.pt_sets.specs.Automata.{Automaton, language_of, SetOfState}
-use Rattle.pt_sets.specs.Lists.{Lists, Home}
-use Rattle.pt_sets.specs.Known.{language_in}
+use Rattle.pt_known.specs.Lists.{Lists, Home}
+use Rattle.pt_known.specs.Known.{language_in}
 use Rattle.pt_sets.proofs.Acceptance.{same-language-same-set}
 use Rattle.pt_sets.proofs.Counting.{SameSet-sym, SameSet-trans}
 use Rattle.pt_handles.specs.declared.finding.Stop.{Stop}

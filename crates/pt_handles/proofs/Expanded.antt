@@ -4,20 +4,20 @@ use Rattle.std.specs.List.{All}
 use Rattle.std.proofs.lemmas.List.{take-append-le, take_all}
 use Rattle.std.proofs.lemmas.List.Sums.{sum_by-take-le}
 use Rattle.std.proofs.lemmas.List.Elements.{All-tail}
-use Rattle.pt_sets.specs.declared.Place.{Place}
-use Rattle.pt_sets.specs.declared.Exit.{Exit}
+use Rattle.pt_known.specs.declared.Place.{Place}
+use Rattle.pt_known.specs.declared.Exit.{Exit}
 use Rattle.pt_sets.specs.Words.{IsLetter, AreLetters}
 use Rattle.pt_sets.specs.Sets.{residual_by}
 use Rattle.pt_sets.specs.Languages.{SameLanguage, SetOf, quotient}
 use Rattle.pt_sets.specs.Automata.{Automaton, Reaches.here, next_of, language_of, SetOfState, IsAutomaton}
-use Rattle.pt_sets.specs.Lists.{Lists, Home}
-use Rattle.pt_sets.specs.Known.{next_in, language_in, IsBelow, IsStateBelow, KnowsPlace, Known}
+use Rattle.pt_known.specs.Lists.{Lists, Home}
+use Rattle.pt_known.specs.Known.{next_in, language_in, IsBelow, IsStateBelow, KnowsPlace, Known}
 use Rattle.pt_sets.proofs.Languages.{SameLanguage-sym, SameLanguage-trans}
 use Rattle.pt_sets.proofs.Running.{state-same}
-use Rattle.pt_sets.proofs.Lacking.{Known-keeps, language_in-run-quotient}
+use Rattle.pt_known.proofs.Lacking.{Known-keeps, language_in-run-quotient}
 use Rattle.pt_sets.proofs.Acceptance.{quotient-residual, same-language-same-set}
 use Rattle.pt_sets.proofs.Counting.{SameSet-trans}
-use Rattle.pt_sets.proofs.Interned.{run-to}
+use Rattle.pt_known.proofs.Interned.{run-to}
 use Rattle.pt_handles.specs.Expansion.{Expands}
 use Rattle.pt_handles.specs.Rows.{size_of, total_of, IsNumbered, IsRow, IsLaid}
 use Rattle.pt_handles.proofs.Few.{All-In}

@@ -2,20 +2,20 @@
 use Rattle.std.proofs.Common.{◌≡◌, ◌≢◌, inl, inr, ℕ, suc, ◌<◌, ◌≤◌, List, [], ◌∷◌, sym, subst, arith, Some}
 use Rattle.std.specs.List.{All, AllPairs, sum_by}
 use Rattle.std.proofs.lemmas.Bool.{cases_lt}
-use Rattle.pt_sets.specs.declared.Place.{Place}
-use Rattle.pt_sets.specs.declared.Exit.{Exit}
+use Rattle.pt_known.specs.declared.Place.{Place}
+use Rattle.pt_known.specs.declared.Exit.{Exit}
 use Rattle.pt_sets.specs.Words.{AreLetters}
 use Rattle.pt_sets.specs.Languages.{Language, SameLanguage, quotient}
-use Rattle.pt_sets.specs.Components.{Component, IsLeastCode, code_from, states_of, exit_count, exit_of}
-use Rattle.pt_sets.specs.Lists.{Lists, Home, find}
-use Rattle.pt_sets.specs.Known.{code_or_empty, language_in, IsBelow, IsStateBelow}
-use Rattle.pt_sets.specs.Realizing.{Realizes}
-use Rattle.pt_sets.proofs.Members.{In}
+use Rattle.pt_known.specs.Components.{Component, IsLeastCode, code_from, states_of, exit_count, exit_of}
+use Rattle.pt_known.specs.Lists.{Lists, Home, find}
+use Rattle.pt_known.specs.Known.{code_or_empty, language_in, IsBelow, IsStateBelow}
+use Rattle.pt_known.specs.Realizing.{Realizes}
+use Rattle.pt_base.proofs.Members.{In}
 use Rattle.pt_sets.proofs.Languages.{SameLanguage-sym, SameLanguage-trans, quotient-same}
-use Rattle.pt_sets.proofs.Pigeonhole.{injective-le}
-use Rattle.pt_sets.proofs.Lacking.{language_in-run-quotient}
-use Rattle.pt_sets.proofs.Paths.{run_in}
-use Rattle.pt_sets.proofs.Interned.{same-read, exit-real, exit-known, below-cases, state-read, distinct-interned, run-to}
+use Rattle.pt_base.proofs.Pigeonhole.{injective-le}
+use Rattle.pt_known.proofs.Lacking.{language_in-run-quotient}
+use Rattle.pt_known.proofs.Paths.{run_in}
+use Rattle.pt_known.proofs.Interned.{same-read, exit-real, exit-known, below-cases, state-read, distinct-interned, run-to}
 use Rattle.pt_handles.specs.Rows.{total_of, IsNumbered}
 use Rattle.pt_handles.proofs.InRow.{pairs_by_recursion, numbered, numbered-place, numbered-entry, one-number}
 

@@ -5,19 +5,19 @@ use Rattle.std.proofs.lemmas.Bool.{cases_lt, cases_eq}
 use Rattle.std.proofs.lemmas.List.{append-nil, length-map}
 use Rattle.std.proofs.lemmas.List.Elements.{All-from_recursion}
 use Rattle.std.proofs.lemmas.List.Kept.{AllPairs-cons}
-use Rattle.pt_sets.specs.declared.Place.{Place}
-use Rattle.pt_sets.specs.declared.Exit.{Exit}
-use Rattle.pt_sets.specs.Elements.{AnyByRecursion, PairsByRecursion}
+use Rattle.pt_known.specs.declared.Place.{Place}
+use Rattle.pt_known.specs.declared.Exit.{Exit}
+use Rattle.pt_base.specs.Elements.{AnyByRecursion, PairsByRecursion}
 use Rattle.pt_sets.specs.Words.{AreLetters}
-use Rattle.pt_sets.specs.Lists.{Lists, Home}
-use Rattle.pt_sets.specs.Known.{IsBelow, IsStateBelow, KnowsPlace, next_in}
+use Rattle.pt_known.specs.Lists.{Lists, Home}
+use Rattle.pt_known.specs.Known.{IsBelow, IsStateBelow, KnowsPlace, next_in}
 use Rattle.pt_sets.specs.Costs.{CostWithin, SameResidual}
-use Rattle.pt_sets.proofs.Members.{In}
+use Rattle.pt_base.proofs.Members.{In}
 use Rattle.pt_sets.proofs.Numbered.{All-get}
-use Rattle.pt_sets.proofs.Matching.{Known-state}
-use Rattle.pt_sets.proofs.Paths.{run_in, run-append, IsStateBelow-run}
+use Rattle.pt_known.proofs.Matching.{Known-state}
+use Rattle.pt_known.proofs.Paths.{run_in, run-append, IsStateBelow-run}
 use Rattle.pt_sets.proofs.Languages.{AreLetters-append}
-use Rattle.pt_sets.proofs.Pigeonhole.{injective-le}
+use Rattle.pt_base.proofs.Pigeonhole.{injective-le}
 use Rattle.pt_handles.specs.declared.handle.Handle.{Handle}
 use Rattle.pt_handles.specs.Handles.{IsKnown, SetOfHandle, state_of}
 use Rattle.pt_handles.specs.Rows.{size_of, total_of, IsNumbered}

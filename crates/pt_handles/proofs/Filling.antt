@@ -1,14 +1,14 @@
 -- Rows that are filled one by one, and the height of more and more edges.
 use Rattle.std.proofs.Common.{◌≡◌, inl, inr, ℕ, ◌+◌, ◌*◌, ◌/◌, ◌%◌, ◌<◌, ◌≤◌, max, List, ap, sym, ◌∙◌, subst, arith, get_or, length, slice_index, slice_index_or}
 use Rattle.std.proofs.lemmas.Bool.{cases_lt}
-use Rattle.pt_sets.specs.declared.Exit.{Exit}
-use Rattle.pt_sets.specs.declared.Edge.{Edge}
-use Rattle.pt_sets.specs.declared.Edge.TheVariants.{Near, Far}
-use Rattle.pt_sets.specs.Components.{height_of}
-use Rattle.pt_sets.specs.Lists.{Lists}
-use Rattle.pt_sets.specs.Known.{code_or_empty}
-use Rattle.pt_sets.proofs.Cells.{cell-within}
-use Rattle.pt_sets.proofs.Pigeonhole.{injective-le}
+use Rattle.pt_known.specs.declared.Exit.{Exit}
+use Rattle.pt_known.specs.declared.Edge.{Edge}
+use Rattle.pt_known.specs.declared.Edge.TheVariants.{Near, Far}
+use Rattle.pt_known.specs.Components.{height_of}
+use Rattle.pt_known.specs.Lists.{Lists}
+use Rattle.pt_known.specs.Known.{code_or_empty}
+use Rattle.pt_base.proofs.Cells.{cell-within}
+use Rattle.pt_base.proofs.Pigeonhole.{injective-le}
 use Rattle.pt_handles.specs.Adopting.{Appends, AreRows, IsHeight, IsPart}
 use Rattle.pt_handles.proofs.Parts.{cell-split}
 

@@ -4,11 +4,11 @@ use Rattle.std.specs.List.{AllPairs, AllByRecursion}
 use Rattle.std.proofs.lemmas.Bool.{cases_lt}
 use Rattle.std.proofs.lemmas.List.Sums.{sum_by-cons}
 use Rattle.std.proofs.lemmas.List.Elements.{recursion_from_All}
-use Rattle.pt_sets.specs.declared.Place.{Place}
-use Rattle.pt_sets.specs.declared.Exit.{Exit}
-use Rattle.pt_sets.specs.Elements.{PairsByRecursion}
-use Rattle.pt_sets.specs.Lists.{Lists}
-use Rattle.pt_sets.proofs.Members.{In}
+use Rattle.pt_known.specs.declared.Place.{Place}
+use Rattle.pt_known.specs.declared.Exit.{Exit}
+use Rattle.pt_base.specs.Elements.{PairsByRecursion}
+use Rattle.pt_known.specs.Lists.{Lists}
+use Rattle.pt_base.proofs.Members.{In}
 use Rattle.pt_handles.specs.Rows.{size_of, total_of, IsNumbered}
 
 -- pairs by recursion from pairs by position

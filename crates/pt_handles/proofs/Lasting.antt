@@ -1,13 +1,13 @@
 -- What lists know stays known in longer lists, and in lists that are joined.
 use Rattle.std.proofs.Common.{◌≡◌, subst, sym, List, ℕ, ◌<◌}
-use Rattle.pt_sets.specs.Components.{states_of}
+use Rattle.pt_known.specs.Components.{states_of}
 use Rattle.pt_sets.specs.Sets.{SameSet}
-use Rattle.pt_sets.specs.Lists.{Lists}
+use Rattle.pt_known.specs.Lists.{Lists}
 use Rattle.pt_sets.specs.Automata.{Reaches.here}
-use Rattle.pt_sets.specs.Known.{language_in}
+use Rattle.pt_known.specs.Known.{language_in}
 use Rattle.pt_sets.proofs.Acceptance.{same-language-same-set}
 use Rattle.pt_sets.proofs.Counting.{SameSet-sym, SameSet-trans}
-use Rattle.pt_sets.proofs.Longer.{KnowsPlace-longer, code_or_empty-longer, language_in-longer}
+use Rattle.pt_known.proofs.Longer.{KnowsPlace-longer, code_or_empty-longer, language_in-longer}
 use Rattle.pt_handles.specs.declared.handle.Handle.{Handle}
 use Rattle.pt_handles.specs.Handles.{state_of, SetOfHandle}
 use Rattle.pt_handles.specs.Laws.{LongerListsKnow, JoinedListsKnow, JoinedSetsAreOneHandle}

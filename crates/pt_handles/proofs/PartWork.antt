@@ -1,17 +1,17 @@
 -- What holds while a part of a reduced automaton becomes known.
 use Rattle.std.proofs.Common.{◌≡◌, ℕ, zero, suc, ◌+◌, ◌<◌, ◌≤◌, List, [], ◌∷◌, Vec, refl, ap, sym, ◌∙◌, subst, arith, true, false, Bool, Some, get_or, length, slice_index, slice_index_or}
 use Rattle.std.specs.declared.alloc.Global.{Global}
-use Rattle.pt_sets.specs.declared.Place.{Place}
-use Rattle.pt_sets.specs.declared.Exit.{Exit}
-use Rattle.pt_sets.specs.declared.Edge.{Edge}
-use Rattle.pt_sets.specs.declared.Edge.TheVariants.{Near, Far}
+use Rattle.pt_known.specs.declared.Place.{Place}
+use Rattle.pt_known.specs.declared.Exit.{Exit}
+use Rattle.pt_known.specs.declared.Edge.{Edge}
+use Rattle.pt_known.specs.declared.Edge.TheVariants.{Near, Far}
 use Rattle.pt_sets.specs.Words.{IsLetter}
 use Rattle.pt_sets.specs.Automata.{Automaton, Reaches, Reaches.here, next_of, language_of, IsAutomaton, IsReduced, SetOfState}
-use Rattle.pt_sets.specs.Components.{Component}
-use Rattle.pt_sets.specs.Lists.{Lists, Home, list_of, find, Extends}
-use Rattle.pt_sets.specs.Known.{code_or_empty}
-use Rattle.pt_sets.specs.Realizing.{Realizes}
-use Rattle.pt_sets.proofs.Pigeonhole.{injective-le}
+use Rattle.pt_known.specs.Components.{Component}
+use Rattle.pt_known.specs.Lists.{Lists, Home, list_of, find, Extends}
+use Rattle.pt_known.specs.Known.{code_or_empty}
+use Rattle.pt_known.specs.Realizing.{Realizes}
+use Rattle.pt_base.proofs.Pigeonhole.{injective-le}
 use Rattle.pt_code.specs.Coding.{IsCoding}
 use Rattle.pt_store.specs.Interning.{RefusesFull}
 use Rattle.pt_store.specs.declared.fault.StoreFault.{StoreFault}

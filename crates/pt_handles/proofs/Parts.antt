@@ -2,21 +2,21 @@
 use Rattle.std.proofs.Common.{◌≡◌, inl, inr, ℕ, zero, suc, ◌+◌, ◌*◌, ◌/◌, ◌%◌, ◌^◌, ◌<◌, ◌≤◌, List, [], ◌∷◌, ◌++◌, refl, ap, sym, ◌∙◌, subst, arith, get_or, length, slice_index, slice_index_or}
 use Rattle.std.proofs.lemmas.Bool.{cases_lt}
 use Rattle.std.proofs.lemmas.List.{get_or_default}
-use Rattle.pt_sets.specs.declared.Exit.{Exit}
-use Rattle.pt_sets.specs.declared.Edge.{Edge}
-use Rattle.pt_sets.specs.declared.Edge.TheVariants.{Near, Far}
+use Rattle.pt_known.specs.declared.Exit.{Exit}
+use Rattle.pt_known.specs.declared.Edge.{Edge}
+use Rattle.pt_known.specs.declared.Edge.TheVariants.{Near, Far}
 use Rattle.pt_sets.specs.Words.{IsLetter, AreLetters}
 use Rattle.pt_sets.specs.Languages.{SameLanguage, quotient}
 use Rattle.pt_sets.specs.Automata.{Automaton, Reaches, Reaches.here, Reaches.further, next_of, output_of, language_of, IsAutomaton, IsReduced}
-use Rattle.pt_sets.specs.Components.{Component, IsComponent, IsNearEdge, IsStronglyConnected, StaysWithin, edge_at}
-use Rattle.pt_sets.specs.Lists.{Lists, Home}
-use Rattle.pt_sets.specs.Known.{language_in}
-use Rattle.pt_sets.specs.Realizing.{Realizes}
+use Rattle.pt_known.specs.Components.{Component, IsComponent, IsNearEdge, IsStronglyConnected, StaysWithin, edge_at}
+use Rattle.pt_known.specs.Lists.{Lists, Home}
+use Rattle.pt_known.specs.Known.{language_in}
+use Rattle.pt_known.specs.Realizing.{Realizes}
 use Rattle.pt_sets.proofs.Reaching.{Reaches-trans}
-use Rattle.pt_sets.proofs.Cells.{cell-within}
+use Rattle.pt_base.proofs.Cells.{cell-within}
 use Rattle.pt_sets.proofs.Languages.{SameLanguage-sym, SameLanguage-trans, AreLetters-append, quotient-same}
-use Rattle.pt_sets.proofs.Pigeonhole.{injective-le}
-use Rattle.pt_sets.proofs.Realized.{edge-cases}
+use Rattle.pt_base.proofs.Pigeonhole.{injective-le}
+use Rattle.pt_known.proofs.Realized.{edge-cases}
 use Rattle.pt_sets.proofs.Running.{run-joined, language-run, state-same}
 use Rattle.pt_scc.specs.Components.{IsEdge}
 use Rattle.pt_handles.specs.Adopting.{state_after, IsPart, LeadsTo, Leads, IsPieceOf}

@@ -5,25 +5,25 @@ use Rattle.std.specs.List.{position_or_len}
 use Rattle.std.proofs.lemmas.Bool.{cases_lt}
 use Rattle.std.proofs.lemmas.List.{get_or_default}
 use Rattle.std.proofs.lemmas.List.FromFn.{get_or-map-range_with_len}
-use Rattle.pt_sets.specs.declared.Place.{Place}
-use Rattle.pt_sets.specs.declared.Exit.{Exit}
-use Rattle.pt_sets.specs.declared.Edge.{Edge}
-use Rattle.pt_sets.specs.declared.Edge.TheVariants.{Near, Far}
+use Rattle.pt_known.specs.declared.Place.{Place}
+use Rattle.pt_known.specs.declared.Exit.{Exit}
+use Rattle.pt_known.specs.declared.Edge.{Edge}
+use Rattle.pt_known.specs.declared.Edge.TheVariants.{Near, Far}
 use Rattle.pt_sets.specs.Words.{AreLetters}
 use Rattle.pt_sets.specs.Languages.{SameLanguage, quotient}
 use Rattle.pt_sets.specs.Automata.{Automaton, Reaches, Reaches.here, Reaches.further, next_of, output_of, language_of, IsAutomaton, SetOfState}
-use Rattle.pt_sets.specs.Components.{Component, states_of, height_of, states_in_order}
-use Rattle.pt_sets.specs.Lists.{Lists, Home, find, list_of, Extends}
-use Rattle.pt_sets.specs.Known.{KnowsPlace, Lacks}
-use Rattle.pt_sets.specs.Realizing.{Realizes}
+use Rattle.pt_known.specs.Components.{Component, states_of, height_of, states_in_order}
+use Rattle.pt_known.specs.Lists.{Lists, Home, find, list_of, Extends}
+use Rattle.pt_known.specs.Known.{KnowsPlace, Lacks}
+use Rattle.pt_known.specs.Realizing.{Realizes}
 use Rattle.pt_sets.proofs.Reaching.{Reaches-trans}
 use Rattle.pt_sets.proofs.Languages.{SameLanguage-sym, SameLanguage-trans}
-use Rattle.pt_sets.proofs.Longer.{code_or_empty-longer, language_in-longer}
-use Rattle.pt_sets.proofs.Lacking.{Known-longer, Realizes-longer, full_lists_lack}
+use Rattle.pt_known.proofs.Longer.{code_or_empty-longer, language_in-longer}
+use Rattle.pt_known.proofs.Lacking.{Known-longer, Realizes-longer, full_lists_lack}
 use Rattle.pt_sets.proofs.Running.{language-run, state-keeps}
-use Rattle.pt_sets.proofs.Interned.{f, iso, stands, height-read, same-read, KnowsPlace-interned}
-use Rattle.pt_sets.proofs.ReadBack.{number_of}
-use Rattle.pt_sets.proofs.Matching.{Known-state}
+use Rattle.pt_known.proofs.Interned.{f, iso, stands, height-read, same-read, KnowsPlace-interned}
+use Rattle.pt_known.proofs.ReadBack.{number_of}
+use Rattle.pt_known.proofs.Matching.{Known-state}
 use Rattle.pt_code.specs.Coding.{IsCoding}
 use Rattle.pt_scc.specs.Components.{AreComponents, IsEdge, IsIn}
 use Rattle.pt_handles.specs.Adopting.{state_after, AreReached, IsExitOf, IsPart, ArePlaced, Writes, LeadsTo, Leads, NeverEnters}

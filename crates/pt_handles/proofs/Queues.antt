@@ -6,7 +6,7 @@ use Rattle.pt_sets.specs.Words.{IsLetter, AreLetters}
 use Rattle.pt_sets.specs.Automata.{Automaton, next_of, output_of}
 use Rattle.pt_sets.proofs.Running.{run-joined}
 use Rattle.pt_sets.proofs.Languages.{AreLetters-append}
-use Rattle.pt_sets.proofs.Pigeonhole.{injective-le}
+use Rattle.pt_base.proofs.Pigeonhole.{injective-le}
 use Rattle.pt_handles.specs.Adopting.{state_after, AreReached}
 use Rattle.pt_handles.specs.Searching.{IsQueue, Meets}
 

@@ -2,9 +2,9 @@
 use Rattle.std.proofs.Common.{refl}
 use Rattle.pt_sets.specs.Sets.{residual_by}
 use Rattle.pt_sets.specs.Languages.{SetOf, quotient}
-use Rattle.pt_sets.specs.Known.{language_in}
-use Rattle.pt_sets.proofs.Paths.{run_in}
-use Rattle.pt_sets.proofs.Lacking.{Known-run, Known-keeps, language_in-run-quotient}
+use Rattle.pt_known.specs.Known.{language_in}
+use Rattle.pt_known.proofs.Paths.{run_in}
+use Rattle.pt_known.proofs.Lacking.{Known-run, Known-keeps, language_in-run-quotient}
 use Rattle.pt_sets.proofs.Acceptance.{quotient-residual, same-language-same-set}
 use Rattle.pt_sets.proofs.Counting.{SameSet-sym, SameSet-trans}
 use Rattle.pt_handles.specs.Handles.{state_of, SetOfHandle, handle_after}

@@ -1,8 +1,8 @@
 -- What two passes adopted, after their join.
 use Rattle.std.proofs.Common.{◌≡◌, ℕ, sym, ◌∙◌, subst}
 use Rattle.pt_sets.specs.Sets.{VectorSet, SameSet}
-use Rattle.pt_sets.specs.Lists.{Lists, Home}
-use Rattle.pt_sets.specs.declared.Place.{Place}
+use Rattle.pt_known.specs.Lists.{Lists, Home}
+use Rattle.pt_known.specs.declared.Place.{Place}
 use Rattle.pt_sets.proofs.Counting.{SameSet-sym, SameSet-trans}
 use Rattle.pt_store.specs.Interning.{Joins}
 use Rattle.pt_handles.specs.declared.handle.Handle.{Handle}

@@ -6,12 +6,12 @@ use Rattle.std.proofs.lemmas.List.{get_or_append_left, get_or_push, length_push}
 use Rattle.std.proofs.lemmas.List.Elements.{All-push}
 use Rattle.std.proofs.lemmas.List.Quantifiers.{all_pairs_push}
 use Rattle.std.proofs.lemmas.List.Sums.{sum_by_push}
-use Rattle.pt_sets.specs.declared.Place.{Place}
-use Rattle.pt_sets.specs.declared.Exit.{Exit}
+use Rattle.pt_known.specs.declared.Place.{Place}
+use Rattle.pt_known.specs.declared.Exit.{Exit}
 use Rattle.pt_sets.specs.Automata.{Reaches.here}
-use Rattle.pt_sets.specs.Lists.{Lists, Home}
-use Rattle.pt_sets.specs.Known.{next_in, output_in, IsBelow, KnowsPlace}
-use Rattle.pt_sets.proofs.Cells.{cell-within}
+use Rattle.pt_known.specs.Lists.{Lists, Home}
+use Rattle.pt_known.specs.Known.{next_in, output_in, IsBelow, KnowsPlace}
+use Rattle.pt_base.proofs.Cells.{cell-within}
 use Rattle.pt_handles.specs.Rows.{size_of, total_of, IsNumbered, IsRow, AddsState, IsLaid, same_place}
 use Rattle.pt_handles.proofs.InRow.{total-cons, numbered, numbered-more, numbered-below, one-state}
 

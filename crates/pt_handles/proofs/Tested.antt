@@ -5,18 +5,18 @@ use Rattle.std.proofs.Math.Pow.{pow_mono}
 use Rattle.std.proofs.lemmas.List.Sums.{sum_by-take-le, sum_by_push}
 use Rattle.std.proofs.lemmas.List.Quantifiers.{all_pairs_push}
 use Rattle.std.proofs.lemmas.List.Elements.{All-push}
-use Rattle.pt_sets.specs.declared.Place.{Place}
-use Rattle.pt_sets.specs.declared.Exit.{Exit}
-use Rattle.pt_sets.specs.declared.Edge.TheVariants.{Near, Far}
+use Rattle.pt_known.specs.declared.Place.{Place}
+use Rattle.pt_known.specs.declared.Exit.{Exit}
+use Rattle.pt_known.specs.declared.Edge.TheVariants.{Near, Far}
 use Rattle.pt_sets.specs.Words.{IsLetter, AreLetters}
 use Rattle.pt_sets.specs.Languages.{SameLanguage}
 use Rattle.pt_sets.specs.Automata.{Automaton, Reaches.here, Reaches.further, next_of, output_of, language_of, IsAutomaton, KeepsSign}
-use Rattle.pt_sets.specs.Components.{tracks_of, states_of, exit_count, exit_of, edge_numbered, target_of, HasShape}
-use Rattle.pt_sets.specs.Lists.{Lists, Home, code_at}
-use Rattle.pt_sets.specs.Known.{code_or_empty, follow, next_in, output_in, language_in, HasExitTo, IsBelow, IsStateBelow, KnowsPlace}
+use Rattle.pt_known.specs.Components.{tracks_of, states_of, exit_count, exit_of, edge_numbered, target_of, HasShape}
+use Rattle.pt_known.specs.Lists.{Lists, Home, code_at}
+use Rattle.pt_known.specs.Known.{code_or_empty, follow, next_in, output_in, language_in, HasExitTo, IsBelow, IsStateBelow, KnowsPlace}
 use Rattle.pt_sets.proofs.Reaching.{Reaches-trans}
-use Rattle.pt_sets.proofs.Stepping.{edge_numbered-cases}
-use Rattle.pt_sets.proofs.Cells.{cell-within}
+use Rattle.pt_known.proofs.Stepping.{edge_numbered-cases}
+use Rattle.pt_base.proofs.Cells.{cell-within}
 use Rattle.pt_handles.specs.Rows.{size_of, total_of, IsNumbered, IsRow, IsLaid}
 use Rattle.pt_handles.specs.Knowing.{IsStateOf, HasStates, IsTested, IsClosed, Explores, table_of}
 use Rattle.pt_handles.proofs.InRow.{numbered, numbered-below}

@@ -1,15 +1,15 @@
 -- Making the states of a reduced automaton known, component by component.
 use Rattle.std.specs.Prelude.{◌≡◌, ◌≢◌, ℕ, ◌+◌, ◌*◌, ◌^◌, ◌<◌, List, Bool, true, false, Some, length, slice_index, slice_index_or}
-use Rattle.pt_sets.specs.declared.Place.{Place}
-use Rattle.pt_sets.specs.declared.Exit.{Exit}
-use Rattle.pt_sets.specs.declared.Edge.{Edge}
-use Rattle.pt_sets.specs.declared.Edge.TheVariants.{Near, Far}
+use Rattle.pt_known.specs.declared.Place.{Place}
+use Rattle.pt_known.specs.declared.Exit.{Exit}
+use Rattle.pt_known.specs.declared.Edge.{Edge}
+use Rattle.pt_known.specs.declared.Edge.TheVariants.{Near, Far}
 use Rattle.pt_sets.specs.Words.{IsLetter, AreLetters}
 use Rattle.pt_sets.specs.Languages.{SameLanguage}
 use Rattle.pt_sets.specs.Automata.{Automaton, run, next_of, output_of, language_of}
-use Rattle.pt_sets.specs.Components.{Component, edge_at, output_at, height_of}
-use Rattle.pt_sets.specs.Lists.{Lists, Home, code_at}
-use Rattle.pt_sets.specs.Known.{code_or_empty, language_in, Known}
+use Rattle.pt_known.specs.Components.{Component, edge_at, output_at, height_of}
+use Rattle.pt_known.specs.Lists.{Lists, Home, code_at}
+use Rattle.pt_known.specs.Known.{code_or_empty, language_in, Known}
 use Rattle.pt_scc.specs.Components.{IsIn}
 
 -- the state after a list of letters

@@ -1,11 +1,11 @@
 -- Handles as states of lists of codes.
 use Rattle.std.specs.Prelude.{◌≡◌, ℕ, List, length}
-use Rattle.pt_sets.specs.declared.Exit.{Exit}
+use Rattle.pt_known.specs.declared.Exit.{Exit}
 use Rattle.pt_sets.specs.Sets.{VectorSet, SameSet}
 use Rattle.pt_sets.specs.Languages.{Language, SetOf}
 use Rattle.pt_sets.specs.Automata.{run}
-use Rattle.pt_sets.specs.Lists.{Lists, Home, list_of}
-use Rattle.pt_sets.specs.Known.{next_in, output_in, language_in, Known, Lacks}
+use Rattle.pt_known.specs.Lists.{Lists, Home, list_of}
+use Rattle.pt_known.specs.Known.{next_in, output_in, language_in, Known, Lacks}
 use Rattle.pt_handles.specs.declared.handle.Handle.{Handle}
 use Rattle.pt_store.specs.declared.fault.StoreFault.{StoreFault}
 use Rattle.pt_store.specs.declared.fault.StoreFault.TheVariants.{Full, NoMemory}

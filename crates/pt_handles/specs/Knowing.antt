@@ -1,14 +1,14 @@
 -- Deciding whether lists know a handle.
 use Rattle.std.specs.Prelude.{◌≡◌, ℕ, ◌<◌, ◌≤◌, ◌*◌, ◌^◌, List, Bool, All, Option, length}
-use Rattle.pt_sets.specs.declared.Place.{Place}
-use Rattle.pt_sets.specs.declared.Exit.{Exit}
+use Rattle.pt_known.specs.declared.Place.{Place}
+use Rattle.pt_known.specs.declared.Exit.{Exit}
 use Rattle.pt_sets.specs.Sets.{VectorSet, SameSet}
 use Rattle.pt_sets.specs.Languages.{SetOf, SameLanguage}
 use Rattle.pt_sets.specs.Automata.{Automaton, language_of, next_of}
 use Rattle.pt_sets.specs.Words.{IsLetter}
-use Rattle.pt_sets.specs.Components.{tracks_of}
-use Rattle.pt_sets.specs.Lists.{Lists, Home}
-use Rattle.pt_sets.specs.Known.{Known, language_in, code_or_empty}
+use Rattle.pt_known.specs.Components.{tracks_of}
+use Rattle.pt_known.specs.Lists.{Lists, Home}
+use Rattle.pt_known.specs.Known.{Known, language_in, code_or_empty}
 use Rattle.pt_handles.specs.Rows.{size_of, IsRow}
 use Rattle.pt_handles.specs.declared.finding.Stop.{Stop}
 use Rattle.pt_handles.specs.declared.finding.Stop.TheVariants.{Unknown, NoMemory}

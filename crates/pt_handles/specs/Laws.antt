@@ -2,7 +2,7 @@
 use Rattle.std.specs.Prelude.{◌≡◌, ◌↔◌, ℕ, List, Bool, IsTrue}
 use Rattle.pt_sets.specs.Words.{AreLetters}
 use Rattle.pt_sets.specs.Sets.{SameSet, residual_by}
-use Rattle.pt_sets.specs.Lists.{Lists, Home, Extends}
+use Rattle.pt_known.specs.Lists.{Lists, Home, Extends}
 use Rattle.pt_store.specs.Interning.{Joins}
 use Rattle.pt_sets.specs.Costs.{CostWithin, SameResidual}
 use Rattle.pt_handles.specs.declared.handle.Handle.{Handle}

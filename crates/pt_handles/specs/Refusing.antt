@@ -2,8 +2,8 @@
 use Rattle.std.specs.Prelude.{◌≡◌, ℕ, List, length}
 use Rattle.pt_sets.specs.Sets.{VectorSet}
 use Rattle.pt_sets.specs.Costs.{CostAbove}
-use Rattle.pt_sets.specs.Lists.{Lists, Home, list_of}
-use Rattle.pt_sets.specs.Known.{Lacks}
+use Rattle.pt_known.specs.Lists.{Lists, Home, list_of}
+use Rattle.pt_known.specs.Known.{Lacks}
 use Rattle.pt_store.specs.declared.fault.StoreFault.{StoreFault}
 use Rattle.pt_store.specs.declared.fault.StoreFault.TheVariants as store
 use Rattle.pt_handles.specs.declared.fault.TableFault.{TableFault}

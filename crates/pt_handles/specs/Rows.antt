@@ -1,11 +1,11 @@
 -- The states of places of lists of codes in one row: place by place, each place's states by their entries.
 use Rattle.std.specs.Prelude.{◌≡◌, ◌≢◌, ◌⊎◌, ◌==◌, ◌&&◌, ℕ, ◌+◌, ◌*◌, ◌^◌, ◌<◌, List, [], ◌∷◌, Bool, false, Option, None, Some, All, AllPairs, length, slice_index, slice_index_or, sum_by}
-use Rattle.pt_sets.specs.declared.Place.{Place}
-use Rattle.pt_sets.specs.declared.Exit.{Exit}
+use Rattle.pt_known.specs.declared.Place.{Place}
+use Rattle.pt_known.specs.declared.Exit.{Exit}
 use Rattle.pt_sets.specs.Words.{IsLetter}
-use Rattle.pt_sets.specs.Components.{states_of}
-use Rattle.pt_sets.specs.Lists.{Lists}
-use Rattle.pt_sets.specs.Known.{code_or_empty, next_in, output_in, IsBelow}
+use Rattle.pt_known.specs.Components.{states_of}
+use Rattle.pt_known.specs.Lists.{Lists}
+use Rattle.pt_known.specs.Known.{code_or_empty, next_in, output_in, IsBelow}
 use Rattle.pt_handles.specs.Adopting.{Appends}
 
 -- how many states a place has

@@ -1,7 +1,7 @@
 // Making a set known.
 ghost use Rattle.std.specs.Prelude.{◌≡◌, ℕ, ◌+◌, ◌<◌, ◌≤◌, length, IfOk, IfErr, OnOk};
 ghost use Rattle.pt_sets.specs.Automata.{SetOfState, IsReduced};
-ghost use Rattle.pt_sets.specs.Lists.{Extends};
+ghost use Rattle.pt_known.specs.Lists.{Extends};
 ghost use Rattle.pt_scc.specs.Components.{AreComponents, IsEdge, lists_of};
 ghost use Rattle.pt_handles.specs.Handles.{Has, FullOnlyWhereLacking};
 ghost use Rattle.pt_handles.specs.Adopting.{AreReached, ArePlaced};

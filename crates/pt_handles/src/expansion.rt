@@ -1,10 +1,10 @@
 // The automaton of the states that a handle reaches.
 ghost use Rattle.std.specs.Prelude.{◌≡◌, ◌≤◌, ◌<◌, ◌+◌, ◌^◌, ◌++◌, ℕ, List, Some, OnOk, IfOk};
 ghost use Rattle.std.specs.HashMap.{get};
-ghost use Rattle.pt_sets.specs.declared.Place.{Place};
-ghost use Rattle.pt_sets.specs.Components.{tracks_of, states_of};
-ghost use Rattle.pt_sets.specs.Lists.{code_at};
-ghost use Rattle.pt_sets.specs.Known.{code_or_empty, follow, KnowsPlace, IsStateBelow, IsBelow};
+ghost use Rattle.pt_known.specs.declared.Place.{Place};
+ghost use Rattle.pt_known.specs.Components.{tracks_of, states_of};
+ghost use Rattle.pt_known.specs.Lists.{code_at};
+ghost use Rattle.pt_known.specs.Known.{code_or_empty, follow, KnowsPlace, IsStateBelow, IsBelow};
 ghost use Rattle.pt_handles.specs.Expansion.{Expands};
 ghost use Rattle.pt_handles.specs.Handles.{IsKnown, SetOfHandle};
 ghost use Rattle.pt_handles.specs.Rows.{IsRow, IsNumbered, AddsState, IsLaid, same_place, size_of};

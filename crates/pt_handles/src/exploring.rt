@@ -1,9 +1,9 @@
 // The automaton of the states that a handle reaches, whether it is known or not.
 ghost use Rattle.std.specs.Prelude.{◌≡◌, ◌≤◌, ◌<◌, ◌+◌, ◌^◌, ◌++◌, ◌↔◌, ℕ, List, IsTrue, OnOk, IfOk, IfErr};
 ghost use Rattle.std.specs.HashMap.{get};
-ghost use Rattle.pt_sets.specs.declared.Place.{Place};
+ghost use Rattle.pt_known.specs.declared.Place.{Place};
 ghost use Rattle.pt_sets.specs.Automata.{KeepsSign, next_of, output_of};
-ghost use Rattle.pt_sets.specs.Known.{KnowsPlace, IsStateBelow, IsBelow};
+ghost use Rattle.pt_known.specs.Known.{KnowsPlace, IsStateBelow, IsBelow};
 ghost use Rattle.pt_handles.specs.Handles.{IsKnown, state_of};
 ghost use Rattle.pt_handles.specs.Rows.{IsNumbered, AddsState, IsLaid, same_place, size_of};
 ghost use Rattle.pt_handles.specs.Knowing.{Refutes, IsStateOf, HasStates, IsTested, IsClosed, Explores, table_of};

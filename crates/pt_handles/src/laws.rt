@@ -1,9 +1,9 @@
 // Laws of known handles, each proved of every list of codes.
-ghost use Rattle.pt_sets.specs.Realizing.{FullListsLack, InternedComponentsAreKnown};
+ghost use Rattle.pt_known.specs.Realizing.{FullListsLack, InternedComponentsAreKnown};
 ghost use Rattle.pt_handles.specs.Laws.{EqualSetsAreEqualHandles, LongerListsKnow, JoinedListsKnow, JoinedSetsAreOneHandle, ReachedHandlesHaveResiduals, ReachedHandlesAreOne, KnownSetsHaveFewResiduals};
 ghost use Rattle.std.specs.Prelude.{ℕ};
-ghost use Rattle.pt_sets.specs.Lists.{Lists, Home, Extends};
-ghost use Rattle.pt_sets.specs.Known.{Lacks};
+ghost use Rattle.pt_known.specs.Lists.{Lists, Home, Extends};
+ghost use Rattle.pt_known.specs.Known.{Lacks};
 
 use pt_sets::set::TestsVectors;
 

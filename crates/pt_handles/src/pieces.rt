@@ -1,13 +1,13 @@
 // Parts of a table as components.
 ghost use Rattle.std.specs.Prelude.{◌≡◌, ℕ, ◌+◌, ◌<◌, ◌≤◌, ◌^◌, length, slice_index, slice_index_or, false, IfOk, OnOk};
-ghost use Rattle.pt_sets.specs.declared.Place.{Place};
-ghost use Rattle.pt_sets.specs.declared.Exit.{Exit};
-ghost use Rattle.pt_sets.specs.declared.Edge.{Edge};
-ghost use Rattle.pt_sets.specs.declared.Edge.TheVariants.{Near, Far};
+ghost use Rattle.pt_known.specs.declared.Place.{Place};
+ghost use Rattle.pt_known.specs.declared.Exit.{Exit};
+ghost use Rattle.pt_known.specs.declared.Edge.{Edge};
+ghost use Rattle.pt_known.specs.declared.Edge.TheVariants.{Near, Far};
 ghost use Rattle.pt_sets.specs.Words.{IsLetter};
 ghost use Rattle.pt_sets.specs.Automata.{next_of, output_of};
-ghost use Rattle.pt_sets.specs.Components.{height_of};
-ghost use Rattle.pt_sets.specs.Known.{code_or_empty};
+ghost use Rattle.pt_known.specs.Components.{height_of};
+ghost use Rattle.pt_known.specs.Known.{code_or_empty};
 ghost use Rattle.pt_code.specs.Component.{component};
 ghost use Rattle.pt_handles.specs.Adopting.{IsPart, Writes, Appends, AreRows, IsHeight, IsPieceOf, HasLowCode};
 

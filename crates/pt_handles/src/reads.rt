@@ -3,8 +3,8 @@ ghost use Rattle.std.specs.Prelude.{◌≡◌, ◌<◌, ◌^◌, ◌↔◌, IsTr
 ghost use Rattle.pt_sets.specs.Words.{sign_vector};
 ghost use Rattle.pt_sets.specs.Sets.{residual};
 ghost use Rattle.pt_handles.specs.Handles.{IsKnown, Has, SetOfHandle, state_of};
-ghost use Rattle.pt_sets.specs.Components.{tracks_of, states_of};
-ghost use Rattle.pt_sets.specs.Known.{code_or_empty, follow};
+ghost use Rattle.pt_known.specs.Components.{tracks_of, states_of};
+ghost use Rattle.pt_known.specs.Known.{code_or_empty, follow};
 
 use crate::handle::Handle;
 use pt_code::{Code, Edge};

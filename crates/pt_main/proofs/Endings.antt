@@ -11,7 +11,7 @@ use Rattle.pt_read.specs.declared.command.Command.{Command}
 use Rattle.pt_script.specs.declared.fault.SessionFault.{SessionFault}
 use Rattle.pt_script.specs.Step.{Step, StepFails, in_scope, is_exit}
 use Rattle.pt_script.specs.Asks.{CommandAsks, KnowsAsked, LacksAsked}
-use Rattle.pt_sets.specs.Lists.{Lists, Home, Extends}
+use Rattle.pt_known.specs.Lists.{Lists, Home, Extends}
 use Rattle.pt_handles.specs.Laws.{LongerListsKnow}
 use Rattle.pt_syntax.specs.declared.kinds.ReadRefusal.{ReadRefusal}
 use Rattle.pt_read.specs.Scope.{State}

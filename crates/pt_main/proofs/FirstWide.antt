@@ -2,7 +2,7 @@
 use Rattle.std.proofs.Common.{◌≡◌, ◌⊎◌, inl, inr, ℕ, zero, suc, ◌<◌, ◌≤◌, List, [], ◌∷◌, length, take, refl, ap, sym, subst, ◌∙◌, arith}
 use Rattle.std.specs.List.{AllByRecursion}
 use Rattle.std.proofs.lemmas.Bool.{cases_lt}
-use Rattle.pt_sets.specs.Elements.{ContainsByRecursion, PairsByRecursion}
+use Rattle.pt_base.specs.Elements.{ContainsByRecursion, PairsByRecursion}
 use Rattle.pt_sets.specs.Words.{Vector}
 use Rattle.pt_sets.specs.Sets.{VectorSet}
 use Rattle.pt_sets.specs.Shortlex.{ComesBefore, IsFirstMembers}

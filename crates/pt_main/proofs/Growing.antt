@@ -2,12 +2,12 @@
 use Rattle.std.proofs.Common.{ℕ, List, length, ap, arith, length-append}
 use Rattle.std.specs.Prelude.{Option, Some}
 use Rattle.pt_formula.specs.declared.node.Node.{Node}
-use Rattle.pt_formula.specs.declared.node.Position.{Position}
+use Rattle.pt_base.specs.declared.Position.{Position}
 use Rattle.pt_syntax.specs.Lists.{Script}
 use Rattle.pt_read.specs.declared.command.Command.{Command}
 use Rattle.pt_read.specs.Scope.{State}
 use Rattle.pt_read.specs.Reader.{IsNext, OnlyAdds}
-use Rattle.pt_sets.specs.Lists.{Lists, Home}
+use Rattle.pt_known.specs.Lists.{Lists, Home}
 use Rattle.pt_script.specs.State.{Standing}
 use Rattle.pt_main.proofs.Underway.{IsUnderway, IsRead}
 

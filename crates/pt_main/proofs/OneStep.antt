@@ -9,7 +9,7 @@ use Rattle.pt_sets.proofs.Ordering.{least-unique, first-unique}
 use Rattle.pt_query.specs.Queries.{IsEmptySet, IsSubset, IsBounded, HasLetters, IsNarrow, IsListCause}
 use Rattle.pt_query.specs.declared.fault.WitnessFault.TheVariants.{Wide as Is_wide}
 use Rattle.pt_formula.specs.declared.node.Node.{Node}
-use Rattle.pt_formula.specs.declared.node.Position.{Position}
+use Rattle.pt_base.specs.declared.Position.{Position}
 use Rattle.pt_formula.specs.Formulas.{position_at}
 use Rattle.pt_formula.specs.Costs.{IsRefused, NoneRefused}
 use Rattle.pt_eval.specs.Laws.{RefusalsHaveACause}

@@ -4,7 +4,7 @@ use Rattle.std.specs.Prelude.{Option, Some, None}
 use Rattle.std.proofs.Math.Nat.{mul-le-mul_left}
 use Rattle.pt_sets.specs.Sets.{VectorSet, SameSet}
 use Rattle.pt_sets.proofs.Counting.{SameSet-trans}
-use Rattle.pt_sets.specs.Lists.{Lists, Home, Extends}
+use Rattle.pt_known.specs.Lists.{Lists, Home, Extends}
 use Rattle.pt_handles.specs.declared.handle.Handle.{Handle}
 use Rattle.pt_handles.specs.Handles.{Has, SetOfHandle}
 use Rattle.pt_handles.specs.Laws.{LongerListsKnow}

@@ -2,7 +2,7 @@
 use Rattle.std.proofs.Common.{◌≡◌, ◌≢◌, ℕ, ◌<◌, List, [], length, drop, ◌⊎◌, refl, inl, inr, ap, subst, ◌∙◌, arith, length-append, true}
 use Rattle.std.specs.Prelude.{Option, Some, None, IfSome}
 use Rattle.pt_io.specs.Streams.{TookCount}
-use Rattle.pt_sets.specs.Lists.{Lists, Home, list_of}
+use Rattle.pt_known.specs.Lists.{Lists, Home, list_of}
 use Rattle.pt_script.specs.Texts.{too_long}
 use Rattle.pt_main.specs.declared.status.Status.{Status}
 use Rattle.pt_main.specs.declared.status.Status.TheVariants as status

@@ -1,7 +1,7 @@
 -- How a run ended.
 use Rattle.std.specs.Prelude.{ℕ, ◌≡◌, ◌≢◌, true, false, Bool, List, [], Option, Some, drop, length, ⊤}
 use Rattle.pt_io.specs.Streams.{Wrote}
-use Rattle.pt_sets.specs.Lists.{Lists, list_of}
+use Rattle.pt_known.specs.Lists.{Lists, list_of}
 use Rattle.pt_main.specs.declared.status.Status.{Status}
 use Rattle.pt_main.specs.declared.status.Status.TheVariants.{Done, Refused, Usage, ReadFault, WriteFault, NoMemory, StoreFull}
 use Rattle.pt_main.specs.Output.{IsOutput, IsFrontOfOutput}

@@ -1,7 +1,7 @@
 -- The sets that a script asks for, and the work that they may take.
 use Rattle.std.specs.Prelude.{ℕ, ◌+◌, ◌*◌, ◌≤◌, ◌≡◌, ◌⊎◌, Bool, List, length}
 use Rattle.std.specs.List.{AllByRecursion}
-use Rattle.pt_sets.specs.Lists.{Lists, Home}
+use Rattle.pt_known.specs.Lists.{Lists, Home}
 use Rattle.pt_read.specs.declared.command.Command.{Command}
 use Rattle.pt_read.specs.Scope.{State}
 use Rattle.pt_script.specs.State.{Standing}

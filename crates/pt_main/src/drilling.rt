@@ -1,7 +1,7 @@
 // The run of mode drill.
 ghost use Rattle.std.specs.Prelude.{◌≡◌, ◌≤◌, length};
 ghost use Rattle.pt_io.specs.Streams.{Rose};
-ghost use Rattle.pt_sets.specs.Lists.{Extends, list_of};
+ghost use Rattle.pt_known.specs.Lists.{Extends, list_of};
 ghost use Rattle.pt_drill.specs.Drill.{drill_text};
 ghost use Rattle.pt_drill.specs.Summary.{summary as summary_of};
 ghost use Rattle.pt_main.specs.Ending.{IfWhole, IfFull};

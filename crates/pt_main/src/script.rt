@@ -1,7 +1,7 @@
 // The run of a script.
 ghost use Rattle.std.specs.Prelude.{◌≡◌, ◌≢◌, ◌<◌, ◌≤◌, ◌+◌, ◌*◌, ◌^◌, ◌⊎◌, map, length, string_bytes, IfSome};
 ghost use Rattle.pt_io.specs.Streams.{Rose};
-ghost use Rattle.pt_sets.specs.Lists.{Extends, list_of};
+ghost use Rattle.pt_known.specs.Lists.{Extends, list_of};
 ghost use Rattle.pt_read.specs.Fits.{FitsKind};
 ghost use Rattle.pt_script.specs.Asks.{CommandAsks, KnowsAsked, LacksAsked};
 ghost use Rattle.pt_script.specs.Texts.{refusal_line, fault_line, too_long};

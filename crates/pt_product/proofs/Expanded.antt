@@ -2,7 +2,7 @@
 use Rattle.std.proofs.Common.{◌≡◌, ℕ, zero, suc, ◌<◌, ◌≤◌, inl, inr, List, [], ◌∷◌, length, refl, ap, sym, ◌∙◌, subst, arith}
 use Rattle.std.specs.List.{AllByRecursion}
 use Rattle.std.proofs.lemmas.Bool.{cases_lt}
-use Rattle.pt_sets.specs.Elements.{AnyByRecursion}
+use Rattle.pt_base.specs.Elements.{AnyByRecursion}
 use Rattle.pt_sets.specs.Words.{Vector, AreLetters, after_digits}
 use Rattle.pt_sets.specs.Sets.{SameSet, residual_by}
 use Rattle.pt_sets.specs.Automata.{Automaton, IsAutomaton, next_of, output_of, run, SetOfState}

@@ -3,8 +3,8 @@ use Rattle.std.proofs.Common.{◌≡◌, ℕ, List, subst, ◌∙◌}
 use Rattle.pt_sets.specs.Words.{Vector}
 use Rattle.pt_sets.specs.Sets.{SameSet}
 use Rattle.pt_sets.specs.Languages.{SetOf}
-use Rattle.pt_sets.specs.Lists.{Lists, Home}
-use Rattle.pt_sets.specs.Known.{Lacks, language_in}
+use Rattle.pt_known.specs.Lists.{Lists, Home}
+use Rattle.pt_known.specs.Known.{Lacks, language_in}
 use Rattle.pt_sets.proofs.Counting.{SameSet-sym, SameSet-trans}
 use Rattle.pt_store.specs.declared.fault.StoreFault.{StoreFault}
 use Rattle.pt_store.specs.declared.fault.StoreFault.TheVariants as store

@@ -7,7 +7,7 @@ use Rattle.pt_sets.specs.Languages.{KeepsSignExtension, Encodes, SetOf}
 use Rattle.pt_sets.specs.Automata.{Automaton, IsAutomaton, next_of, output_of, language_of, SetOfState}
 use Rattle.pt_sets.proofs.Acceptance.{some-word, accepts-value}
 use Rattle.pt_sets.proofs.Running.{state-keeps}
-use Rattle.pt_sets.proofs.Cells.{cell-within}
+use Rattle.pt_base.proofs.Cells.{cell-within}
 use Rattle.pt_product.specs.Derived.{outside, turned}
 
 get-turned : (xs : List Bool) (i : ℕ) → i < length xs → slice_index_or (map not xs) i false ≡ not (slice_index_or xs i false)

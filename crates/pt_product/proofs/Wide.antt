@@ -9,7 +9,7 @@ use Rattle.pt_sets.specs.Costs.{restricted}
 use Rattle.pt_sets.specs.Restricting.{IsTrackMap, widened_language}
 use Rattle.pt_sets.specs.Automata.{Automaton, IsAutomaton, next_of, output_of, language_of}
 use Rattle.pt_sets.proofs.Restricted.{restricted-IsLetter}
-use Rattle.pt_sets.proofs.Cells.{cell-within}
+use Rattle.pt_base.proofs.Cells.{cell-within}
 use Rattle.pt_product.specs.Derived.{AreWideCells}
 
 pub wide-start : (a : Automaton) (m : List ℕ) (t : ℕ) → AreWideCells a m t 0 [] []

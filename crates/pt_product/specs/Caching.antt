@@ -1,7 +1,7 @@
 -- The answers to combinations that are kept.
 use Rattle.std.specs.Prelude.{ℕ, List, Contains}
 use Rattle.pt_sets.specs.Costs.{SamePair, CostIs}
-use Rattle.pt_sets.specs.Lists.{Lists, Home, Extends}
+use Rattle.pt_known.specs.Lists.{Lists, Home, Extends}
 use Rattle.pt_sets.specs.Restricting.{IsTrackMap, widened}
 use Rattle.pt_formula.specs.declared.Op.{Op}
 use Rattle.pt_handles.specs.declared.handle.Handle.{Handle}

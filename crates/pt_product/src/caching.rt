@@ -2,7 +2,7 @@
 ghost use Rattle.std.specs.Prelude.{◌≡◌, ℕ, ◌+◌, ◌-◌, ◌<◌, ◌≤◌, ◌∷◌, Ok, Err, IfOk, IfErr, OnOk, OnErr, IfSome, IfNone, take};
 ghost use Rattle.std.specs.Map.{lookup};
 ghost use Rattle.lru.specs.LruCache.{promoted};
-ghost use Rattle.pt_sets.specs.Lists.{Extends};
+ghost use Rattle.pt_known.specs.Lists.{Extends};
 ghost use Rattle.pt_sets.specs.Restricting.{IsTrackMap, widened};
 ghost use Rattle.pt_sets.specs.Costs.{SamePair, CostIs, CostWithin};
 ghost use Rattle.pt_memo.specs.Memos.{one_memo, counted};

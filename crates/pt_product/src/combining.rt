@@ -2,7 +2,7 @@
 ghost use Rattle.std.specs.Prelude.{◌≡◌, ℕ, ◌+◌, ◌<◌, ◌≤◌, Err, IfOk, IfErr, OnOk};
 ghost use Rattle.pt_sets.specs.Sets.{SameSet};
 ghost use Rattle.pt_sets.specs.Automata.{SetOfState};
-ghost use Rattle.pt_sets.specs.Lists.{Extends};
+ghost use Rattle.pt_known.specs.Lists.{Extends};
 ghost use Rattle.pt_sets.specs.Restricting.{IsTrackMap, widened};
 ghost use Rattle.pt_sets.specs.Costs.{SamePair, CostIs, CostWithin};
 ghost use Rattle.pt_handles.specs.Handles.{IsKnown, Has, SetOfHandle};

@@ -3,7 +3,7 @@ ghost use Rattle.std.specs.Prelude.{◌≡◌, ℕ, ◌+◌, ◌≤◌, IfOk, If
 ghost use Rattle.std.specs.Prelude.{map as mapped};
 ghost use Rattle.pt_sets.specs.Automata.{IsAutomaton};
 ghost use Rattle.pt_sets.specs.Costs.{CostWithin, SameResidual};
-ghost use Rattle.pt_sets.specs.Lists.{Extends};
+ghost use Rattle.pt_known.specs.Lists.{Extends};
 ghost use Rattle.pt_sets.specs.Restricting.{IsTrackMap, widened};
 ghost use Rattle.pt_handles.specs.Handles.{IsKnown, Has, FullOnlyWhereLacking, SetOfHandle};
 ghost use Rattle.pt_product.specs.Derived.{outside, turned, AreWideCells, IsWide};

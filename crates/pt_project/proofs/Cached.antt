@@ -3,7 +3,7 @@ use Rattle.std.proofs.Common.{◌≡◌, ◌⊎◌, inl, inr, ℕ, suc, ◌-◌,
 use Rattle.std.proofs.lemmas.Bool.{cases_lt}
 use Rattle.pt_sets.specs.Sets.{VectorSet, SameSet}
 use Rattle.pt_sets.specs.Costs.{RestrictsBy, SameFamily, CostIs, CostWithin, CostAbove}
-use Rattle.pt_sets.specs.Lists.{Lists, Home, Extends}
+use Rattle.pt_known.specs.Lists.{Lists, Home, Extends}
 use Rattle.pt_sets.proofs.Counting.{SameSet-sym, SameSet-trans, is-within, is-above, within-monotone}
 use Rattle.pt_handles.specs.declared.handle.Handle.{Handle}
 use Rattle.pt_handles.specs.Handles.{IsKnown, Has, SetOfHandle}

@@ -8,7 +8,7 @@ use Rattle.std.proofs.lemmas.Nat.Bits.{bit_at-lt}
 use Rattle.pt_sets.specs.Words.{Vector, IsLetter, AreLetters, after_digits}
 use Rattle.pt_sets.specs.Sets.{SameSet, residual_by}
 use Rattle.pt_sets.specs.Automata.{Automaton, IsAutomaton, IsReduced, next_of, output_of, language_of, SetOfState}
-use Rattle.pt_sets.specs.Elements.{ContainsByRecursion, PairsByRecursion}
+use Rattle.pt_base.specs.Elements.{ContainsByRecursion, PairsByRecursion}
 use Rattle.pt_sets.specs.Costs.{RestrictsBy, SameResidual, IncludesFamily}
 use Rattle.pt_sets.specs.Numbering.{IsReached}
 use Rattle.pt_sets.proofs.Languages.{AreLetters-append}

@@ -5,7 +5,7 @@ use Rattle.std.specs.Global.{Vec}
 use Rattle.std.proofs.lemmas.Grind.{common_steps}
 use Rattle.pt_sets.specs.Words.{IsLetter}
 use Rattle.pt_sets.proofs.Counting.{SameSet-refl}
-use Rattle.pt_sets.specs.Elements.{ContainsByRecursion}
+use Rattle.pt_base.specs.Elements.{ContainsByRecursion}
 use Rattle.pt_sets.specs.Automata.{Automaton, IsAutomaton, IsReduced, SetOfState}
 use Rattle.pt_sets.specs.Numbering.{IsReached, Adds}
 use Rattle.pt_sets.proofs.Numbered.{All-get, numbering-start, numbering-more}

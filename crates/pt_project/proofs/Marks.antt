@@ -6,7 +6,7 @@ use Rattle.std.specs.List.{count_by}
 use Rattle.std.proofs.lemmas.Bool.{cases_eq}
 use Rattle.std.proofs.lemmas.List.{length-set}
 use Rattle.std.proofs.lemmas.List.Sums.{sum_by-set}
-use Rattle.pt_sets.specs.Elements.{ContainsByRecursion}
+use Rattle.pt_base.specs.Elements.{ContainsByRecursion}
 use Rattle.pt_sets.specs.Automata.{Automaton, next_of}
 use Rattle.pt_project.specs.Closing.{Leads, Leads.shows, Leads.further, HasOutput, IsMarked, MarksMore, AreSources, row_of}
 use Rattle.pt_project.proofs.Orders.{in-append-last}

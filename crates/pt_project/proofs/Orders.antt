@@ -5,7 +5,7 @@ use Rattle.std.specs.List.Sorted.{IsStrictlyIncreasing}
 use Rattle.std.proofs.lemmas.Grind.{common_steps}
 use Rattle.std.proofs.lemmas.List.{take_more}
 use Rattle.std.proofs.lemmas.List.Kept.{AllPairs-from_increasing}
-use Rattle.pt_sets.specs.Elements.{PairsByRecursion, ContainsByRecursion}
+use Rattle.pt_base.specs.Elements.{PairsByRecursion, ContainsByRecursion}
 
 pub contained : (x : ℕ) (xs : List ℕ) → ContainsByRecursion x xs → Contains xs x
 contained x [] inside = elim inside [ ]

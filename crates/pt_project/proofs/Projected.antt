@@ -16,7 +16,7 @@ use Rattle.pt_sets.proofs.WordValues.{length-value, value-letter, slice_get-doub
 use Rattle.pt_sets.proofs.SameValues.{longer-word}
 use Rattle.pt_sets.proofs.Languages.{AreLetters-append}
 use Rattle.pt_project.specs.Projecting.{projected, without, without_all, with_digit, AcceptsWithout, SignClosureIsProjection}
-use Rattle.pt_sets.proofs.Cells.{cell-within}
+use Rattle.pt_base.proofs.Cells.{cell-within}
 
 low-digits : (a k : ℕ) → a % 2 ^ k < 2 ^ k
 low-digits a k = mod_below a (2 ^ k) (pow_pos k)

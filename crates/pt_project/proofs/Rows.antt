@@ -2,7 +2,7 @@
 use Rattle.std.proofs.Common.{◌≡◌, ◌≢◌, ◌⊎◌, inl, inr, ℕ, zero, suc, ◌+◌, ◌<◌, List, [], ◌∷◌, ◌++◌, length, set, get_or, refl, ap, sym, ◌∙◌, subst, arith}
 use Rattle.std.specs.Global.{Vec}
 use Rattle.std.proofs.lemmas.Bool.{cases_eq, cases_lt}
-use Rattle.pt_sets.specs.Elements.{ContainsByRecursion}
+use Rattle.pt_base.specs.Elements.{ContainsByRecursion}
 use Rattle.pt_sets.specs.Automata.{Automaton, next_of}
 use Rattle.pt_project.specs.Closing.{row_of, AreSources}
 use Rattle.pt_project.proofs.Orders.{in-append-last}

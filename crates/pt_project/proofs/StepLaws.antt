@@ -2,7 +2,7 @@
 use Rattle.std.proofs.Common.{◌≡◌, ◌↔◌, inl, inr, ℕ, zero, suc, ◌<◌, List, [], ◌∷◌, lit<, ap, sym, ◌∙◌, subst, arith}
 use Rattle.std.specs.List.{flat_map}
 use Rattle.pt_sets.specs.Automata.{Automaton, next_of}
-use Rattle.pt_sets.specs.Elements.{ContainsByRecursion, PairsByRecursion}
+use Rattle.pt_base.specs.Elements.{ContainsByRecursion, PairsByRecursion}
 use Rattle.pt_project.specs.Projecting.{with_digit}
 use Rattle.pt_project.specs.Families.{IsStepFamily, IsSuccessor}
 use Rattle.pt_project.proofs.Orders.{in-successors, first-in, second-in}

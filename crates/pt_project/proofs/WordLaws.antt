@@ -3,7 +3,7 @@ use Rattle.std.proofs.Common.{◌≡◌, ◌≢◌, ◌⊎◌, ◌↔◌, inl, i
 use Rattle.std.specs.Int.{bit_at}
 use Rattle.std.proofs.lemmas.Bool.{cases_lt, cases_eq}
 use Rattle.std.proofs.lemmas.List.{length-set, take_more}
-use Rattle.pt_sets.specs.Elements.{ContainsByRecursion, PairsByRecursion}
+use Rattle.pt_base.specs.Elements.{ContainsByRecursion, PairsByRecursion}
 use Rattle.pt_project.specs.Bits.{bit_of, HasBit}
 use Rattle.pt_project.proofs.BitLaws.{bit-cleared, bit-kept, bit-in, bit-behind, in-old, in-new}
 use Rattle.pt_project.proofs.Orders.{in-take-more}

@@ -1,7 +1,7 @@
 -- The answers to projections that are kept.
 use Rattle.std.specs.Prelude.{◌≡◌, ℕ, ◌-◌, ◌<◌, List, Contains}
 use Rattle.pt_sets.specs.Costs.{RestrictsBy, SameFamily, CostIs}
-use Rattle.pt_sets.specs.Lists.{Lists, Home, Extends}
+use Rattle.pt_known.specs.Lists.{Lists, Home, Extends}
 use Rattle.pt_handles.specs.declared.handle.Handle.{Handle}
 use Rattle.pt_handles.specs.Handles.{IsKnown, Has, SetOfHandle}
 use Rattle.pt_memo.specs.declared.answer.Answer.{Answer}

@@ -2,7 +2,7 @@
 use Rattle.std.specs.Prelude.{◌≡◌, ◌⊎◌, ◌↔◌, ℕ, zero, suc, ◌+◌, ◌<◌, List, [], ◌∷◌, length, not, Bool, false, IsTrue, Some, slice_get, slice_index_or, vec_len}
 use Rattle.std.specs.Global.{Vec}
 use Rattle.std.specs.List.{count_by}
-use Rattle.pt_sets.specs.Elements.{ContainsByRecursion}
+use Rattle.pt_base.specs.Elements.{ContainsByRecursion}
 use Rattle.pt_sets.specs.Automata.{Automaton, next_of, output_of}
 use Rattle.pt_project.specs.Families.{Closes}
 

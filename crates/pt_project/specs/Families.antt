@@ -1,6 +1,6 @@
 -- Sets of states that are reached by lists of letters which are one list without the dropped track.
 use Rattle.std.specs.Prelude.{◌≡◌, ◌⊎◌, ◌↔◌, ℕ, suc, ◌<◌, ◌≤◌, List, Bool, IsTrue, replicate}
-use Rattle.pt_sets.specs.Elements.{ContainsByRecursion, PairsByRecursion}
+use Rattle.pt_base.specs.Elements.{ContainsByRecursion, PairsByRecursion}
 use Rattle.pt_sets.specs.Words.{IsLetter, AreLetters, sign_vector}
 use Rattle.pt_sets.specs.Sets.{VectorSet}
 use Rattle.pt_sets.specs.Automata.{Automaton, IsAutomaton, SetOfState, next_of, output_of, run}

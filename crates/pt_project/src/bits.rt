@@ -1,7 +1,7 @@
 // Sets of numbers as bits, 64 a word.
 ghost use Rattle.std.specs.Prelude.{◌≡◌, ◌≢◌, ◌↔◌, ◌⊎◌, ◌<◌, ◌≤◌, ◌+◌, ◌*◌, ◌^◌, ℕ, [], length, OnOk, IfOk};
 ghost use Rattle.std.specs.Int.{bit_at};
-ghost use Rattle.pt_sets.specs.Elements.{ContainsByRecursion, PairsByRecursion};
+ghost use Rattle.pt_base.specs.Elements.{ContainsByRecursion, PairsByRecursion};
 ghost use Rattle.pt_project.specs.Bits.{bit_of, HasBit, IsClear};
 
 use std::alloc::{AllocError, Global};

@@ -2,7 +2,7 @@
 ghost use Rattle.std.specs.Prelude.{◌≡◌, ◌≢◌, ◌↔◌, ◌<◌, ◌≤◌, ◌+◌, ◌^◌, ℕ, All, [], ◌∷◌, IfOk, OnOk, IsTrue, slice_index_or, false, length, vec_len};
 ghost use Rattle.pt_sets.specs.Automata.{next_of, output_of};
 ghost use Rattle.pt_project.specs.Closing.{Leads, HasOutput, IsMarked, MarksMore, AreClosings};
-ghost use Rattle.pt_sets.specs.Elements.{ContainsByRecursion};
+ghost use Rattle.pt_base.specs.Elements.{ContainsByRecursion};
 
 use crate::family::{letter_with, power};
 use crate::sources::sources;

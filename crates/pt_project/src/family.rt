@@ -2,7 +2,7 @@
 ghost use Rattle.std.specs.Prelude.{◌≡◌, ◌↔◌, ◌<◌, ◌≤◌, ◌+◌, ◌*◌, ◌^◌, ℕ, [], ◌∷◌, All, IfOk, OnOk, length};
 ghost use Rattle.std.specs.List.{flat_map};
 ghost use Rattle.pt_sets.specs.Automata.{IsAutomaton, next_of};
-ghost use Rattle.pt_sets.specs.Elements.{ContainsByRecursion, PairsByRecursion};
+ghost use Rattle.pt_base.specs.Elements.{ContainsByRecursion, PairsByRecursion};
 ghost use Rattle.pt_project.specs.Bits.{HasBit, IsClear};
 ghost use Rattle.pt_project.specs.Families.{IsStepFamily, IsSuccessor};
 ghost use Rattle.pt_project.specs.Projecting.{with_digit};

@@ -1,6 +1,6 @@
 -- Queries of sets with the same vectors tell the same.
 use Rattle.std.proofs.Common.{ℕ, inl, inr, List, [], ◌∷◌}
-use Rattle.pt_sets.specs.Elements.{AnyByRecursion}
+use Rattle.pt_base.specs.Elements.{AnyByRecursion}
 use Rattle.pt_sets.specs.Sets.{VectorSet, SameSet, residual_by}
 use Rattle.pt_sets.specs.Costs.{CostWithin, SameResidual, SamePair}
 use Rattle.pt_sets.proofs.Counting.{SameSet-sym, SameSet-trans, above-moved, is-moved}

@@ -4,7 +4,7 @@ use Rattle.std.specs.Prelude.{IsTrue}
 use Rattle.std.specs.List.{AllByRecursion}
 use Rattle.std.proofs.lemmas.Bool.{cases_eq, cases_lt}
 use Rattle.pt_sets.specs.Words.{Vector, value}
-use Rattle.pt_sets.specs.Elements.{ContainsByRecursion, PairsByRecursion}
+use Rattle.pt_base.specs.Elements.{ContainsByRecursion, PairsByRecursion}
 use Rattle.pt_sets.specs.Automata.{Automaton, IsAutomaton, next_of, output_of, SetOfState}
 use Rattle.pt_sets.specs.Shortlex.{IsShortlexBefore, ComesBefore, IsFirstMembers}
 use Rattle.pt_sets.proofs.SameValues.{shortest-exists}

@@ -5,12 +5,12 @@ use Rattle.std.specs.List.{AllByRecursion}
 use Rattle.std.proofs.lemmas.Option.{slice_get-get_or, slice_get_within, get_or_from_slice_get}
 use Rattle.pt_sets.specs.Words.{Vector, IsLetter, AreLetters, value}
 use Rattle.pt_sets.specs.Sets.{VectorSet, SameSet, residual_by}
-use Rattle.pt_sets.specs.Elements.{PairsByRecursion}
+use Rattle.pt_base.specs.Elements.{PairsByRecursion}
 use Rattle.pt_sets.specs.Languages.{SetOf}
 use Rattle.pt_sets.specs.Automata.{Automaton, IsAutomaton, SetOfState, next_of, output_of, language_of, run}
 use Rattle.pt_sets.specs.Costs.{SameResidual, SamePair, CostWithin}
 use Rattle.pt_sets.specs.Numbering.{IsReached}
-use Rattle.pt_sets.proofs.Members.{In, In-get_or}
+use Rattle.pt_base.proofs.Members.{In, In-get_or}
 use Rattle.pt_sets.proofs.Counting.{SameSet-sym, SameSet-trans, is-within, within-monotone}
 use Rattle.pt_sets.proofs.Languages.{AreLetters-append}
 use Rattle.pt_sets.proofs.Numbered.{All-get}

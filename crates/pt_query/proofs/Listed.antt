@@ -6,7 +6,7 @@ use Rattle.std.specs.List.{AllByRecursion}
 use Rattle.std.specs.Global.{Vec}
 use Rattle.std.proofs.lemmas.Bool.{cases_lt}
 use Rattle.pt_sets.specs.Words.{Vector, AreLetters, IsWord, value}
-use Rattle.pt_sets.specs.Elements.{ContainsByRecursion, PairsByRecursion}
+use Rattle.pt_base.specs.Elements.{ContainsByRecursion, PairsByRecursion}
 use Rattle.pt_sets.specs.Automata.{Automaton, next_of}
 use Rattle.pt_sets.specs.Shortlex.{IsLexBefore, IsShortlexBefore}
 use Rattle.pt_query.specs.Fresh.{IsFreshFrom, IsLeastFrom, HasNoneFrom, IsLeastAfter, HasNoneAfter, words_of, IsListed, IsNextWord, HasNoNextWord, FoundAll, IsReversed, AreShortWords, values_of}

@@ -5,7 +5,7 @@ use Rattle.std.proofs.lemmas.Bool.{cases_lt, cases_eq}
 use Rattle.std.proofs.lemmas.List.{get_or_append_left}
 use Rattle.std.proofs.lemmas.Option.{slice_get_within, slice_get-get_or, get_or_from_slice_get}
 use Rattle.pt_sets.specs.Words.{IsLetter, AreLetters}
-use Rattle.pt_sets.specs.Elements.{PairsByRecursion}
+use Rattle.pt_base.specs.Elements.{PairsByRecursion}
 use Rattle.pt_sets.specs.Automata.{Automaton, IsAutomaton, next_of, output_of, run}
 use Rattle.pt_sets.specs.Numbering.{Adds}
 use Rattle.pt_sets.proofs.Numbered.{All-get}

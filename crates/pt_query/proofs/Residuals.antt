@@ -2,13 +2,13 @@
 use Rattle.std.proofs.Common.{◌≡◌, ◌≢◌, inl, inr, ℕ, zero, suc, ◌<◌, List, [], ◌∷◌, length, refl, ap, sym, ◌∙◌, subst, arith}
 use Rattle.std.specs.List.{AllByRecursion}
 use Rattle.std.proofs.lemmas.Bool.{cases_eq}
-use Rattle.pt_sets.specs.Elements.{PairsByRecursion}
+use Rattle.pt_base.specs.Elements.{PairsByRecursion}
 use Rattle.pt_sets.specs.Words.{AreLetters}
 use Rattle.pt_sets.specs.Sets.{VectorSet, SameSet, residual_by}
 use Rattle.pt_sets.specs.Automata.{Automaton, IsAutomaton, SetOfState, next_of, output_of, run}
 use Rattle.pt_sets.specs.Costs.{SameResidual, CostIs}
 use Rattle.pt_sets.specs.Numbering.{IsReached}
-use Rattle.pt_sets.proofs.Members.{In}
+use Rattle.pt_base.proofs.Members.{In}
 use Rattle.pt_sets.proofs.Counting.{SameSet-sym, SameSet-trans}
 use Rattle.pt_sets.proofs.Running.{state-residual}
 use Rattle.pt_sets.proofs.Valued.{has-cost}

@@ -6,7 +6,7 @@ use Rattle.std.proofs.lemmas.List.{length-set, get_or_append_left, get_or_push}
 use Rattle.pt_sets.specs.Words.{IsLetter, AreLetters}
 use Rattle.pt_sets.specs.Automata.{Automaton, next_of, output_of, run}
 use Rattle.pt_sets.proofs.Languages.{AreLetters-append}
-use Rattle.pt_sets.proofs.Pigeonhole.{injective-le}
+use Rattle.pt_base.proofs.Pigeonhole.{injective-le}
 use Rattle.pt_sets.proofs.Running.{run-joined}
 use Rattle.pt_query.specs.Walks.{Before}
 use Rattle.pt_query.specs.Spreads.{IsMarked, IsReachedFrom, IsSpread}

@@ -1,11 +1,11 @@
 -- Tracks of known handles, and how many letters there are.
 use Rattle.std.proofs.Common.{◌≡◌, ℕ, ◌^◌, ◌≤◌, subst, arith}
 use Rattle.std.proofs.Math.Pow.{pow_mono}
-use Rattle.pt_sets.specs.declared.Exit.{Exit}
+use Rattle.pt_known.specs.declared.Exit.{Exit}
 use Rattle.pt_sets.specs.Automata.{Reaches.here}
-use Rattle.pt_sets.specs.Components.{tracks_of}
-use Rattle.pt_sets.specs.Lists.{Lists, Home}
-use Rattle.pt_sets.specs.Known.{Known, code_or_empty}
+use Rattle.pt_known.specs.Components.{tracks_of}
+use Rattle.pt_known.specs.Lists.{Lists, Home}
+use Rattle.pt_known.specs.Known.{Known, code_or_empty}
 
 -- a known handle has at most ten tracks
 pub known-tracks : (home : Home) (lists : Lists) (t : ℕ) (q : Exit) → Known home lists t q → t ≤ 10

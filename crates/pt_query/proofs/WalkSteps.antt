@@ -5,7 +5,7 @@ use Rattle.std.proofs.lemmas.Bool.{cases_eq, cases_lt}
 use Rattle.std.proofs.lemmas.List.{length-set, get_or_append_left, get_or_push}
 use Rattle.pt_sets.specs.Words.{IsLetter}
 use Rattle.pt_sets.specs.Automata.{Automaton, IsAutomaton, next_of}
-use Rattle.pt_sets.proofs.Pigeonhole.{injective-le}
+use Rattle.pt_base.proofs.Pigeonhole.{injective-le}
 use Rattle.pt_query.specs.Walks.{Before, IsWalk}
 
 -- no more states are met than there are

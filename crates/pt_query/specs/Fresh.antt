@@ -4,7 +4,7 @@ use Rattle.std.specs.declared.alloc.Global.{Global}
 use Rattle.std.specs.List.{AllByRecursion}
 use Rattle.pt_sets.specs.Words.{IsLetter, IsWord, value}
 use Rattle.pt_sets.specs.Automata.{Automaton, next_of, output_of}
-use Rattle.pt_sets.specs.Elements.{ContainsByRecursion, PairsByRecursion}
+use Rattle.pt_base.specs.Elements.{ContainsByRecursion, PairsByRecursion}
 use Rattle.pt_sets.specs.Shortlex.{IsLexBefore, IsShortlexBefore}
 
 -- an accepted word from a state, the letter before it among the letters that its sign may not repeat

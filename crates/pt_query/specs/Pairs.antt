@@ -1,7 +1,7 @@
 -- Pairs of states of two automata to which the same letters lead.
 use Rattle.std.specs.Prelude.{◌≡◌, ◌≢◌, ℕ, ◌+◌, ◌<◌, List, [], ◌∷◌, length, Some, slice_get, IsTrue}
 use Rattle.std.specs.List.{AllByRecursion}
-use Rattle.pt_sets.specs.Elements.{PairsByRecursion}
+use Rattle.pt_base.specs.Elements.{PairsByRecursion}
 use Rattle.pt_sets.specs.Words.{IsLetter}
 use Rattle.pt_sets.specs.Automata.{Automaton, next_of, output_of, run}
 use Rattle.pt_sets.specs.Numbering.{IsReached}

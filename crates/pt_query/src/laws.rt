@@ -1,7 +1,7 @@
 // Laws of queries.
 ghost use Rattle.std.specs.Prelude.{ℕ};
 ghost use Rattle.pt_sets.specs.Sets.{SameSet};
-ghost use Rattle.pt_sets.specs.Lists.{Lists};
+ghost use Rattle.pt_known.specs.Lists.{Lists};
 ghost use Rattle.pt_handles.specs.declared.handle.Handle.{Handle as HandleValue};
 ghost use Rattle.pt_handles.specs.Handles.{SetOfHandle};
 ghost use Rattle.pt_query.specs.Laws.{TellsAlike, ComparesAlike};

@@ -3,7 +3,7 @@ use Rattle.std.proofs.Common.{◌≡◌, ℕ, ◌<◌, ◌≤◌, List, [], ◌�
 use Rattle.std.specs.Prelude.{Result, Ok, Err, Some, slice_get, IfOk, IfSome}
 use Rattle.std.specs.List.{AllByRecursion}
 use Rattle.pt_formula.specs.declared.node.Node.{Node}
-use Rattle.pt_formula.specs.declared.node.Position.{Position}
+use Rattle.pt_base.specs.declared.Position.{Position}
 use Rattle.pt_formula.specs.Formulas.{start as start_formula, IsFormula}
 use Rattle.pt_syntax.specs.declared.sexpr.SExpr.{SExpr}
 use Rattle.pt_syntax.specs.declared.kinds.ReadRefusal.{ReadRefusal}

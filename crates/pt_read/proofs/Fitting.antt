@@ -2,9 +2,9 @@
 use Rattle.std.proofs.Common.{◌≡◌, ◌⊎◌, inl, inr, ℕ, ◌<◌, ◌≤◌, nat_lt, nat_le, Bool, true, false, if◌then◌else◌, List, [], ◌∷◌, ◌++◌, length, map, refl, sym, ap, subst}
 use Rattle.std.specs.Prelude.{Result, Ok, Err, Some, filter, bytes_eq}
 use Rattle.std.specs.List.{AllByRecursion}
-use Rattle.pt_sets.specs.Elements.{ContainsByRecursion, AnyByRecursion}
+use Rattle.pt_base.specs.Elements.{ContainsByRecursion, AnyByRecursion}
 use Rattle.pt_formula.specs.declared.node.Node.{Node}
-use Rattle.pt_formula.specs.declared.node.Position.{Position}
+use Rattle.pt_base.specs.declared.Position.{Position}
 use Rattle.pt_formula.specs.declared.TheConstants.{MAX_TRACKS, MAX_NODES}
 use Rattle.pt_formula.specs.declared.fault.FormulaFault.TheVariants as fault
 use Rattle.pt_formula.specs.Forms.{Monomial}

@@ -3,9 +3,9 @@ use Rattle.std.proofs.Common.{◌≡◌, inl, inr, ℕ, suc, ◌<◌, ◌≤◌,
 use Rattle.std.proofs.lemmas.Bool.Decides.{nat_tests}
 use Rattle.std.specs.Prelude.{Ok, ℤ, Option, Some, None, bytes_eq, codes}
 use Rattle.std.specs.List.{AllByRecursion, list_all}
-use Rattle.pt_sets.specs.Elements.{ContainsByRecursion}
+use Rattle.pt_base.specs.Elements.{ContainsByRecursion}
 use Rattle.pt_formula.specs.declared.node.Node.TheVariants as node
-use Rattle.pt_formula.specs.declared.node.Position.{Position}
+use Rattle.pt_base.specs.declared.Position.{Position}
 use Rattle.pt_formula.specs.declared.TheConstants.{MAX_TRACKS}
 use Rattle.pt_formula.specs.Formulas.{node_at, variables_of, contains}
 use Rattle.pt_syntax.specs.declared.sexpr.SExpr.{SExpr}

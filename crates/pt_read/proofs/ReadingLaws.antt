@@ -1,7 +1,7 @@
 -- The next list, elaborated, is the next command.
 use Rattle.std.proofs.Common.{◌≡◌, List, [], refl, sym, ap, subst, append-nil, arith}
 use Rattle.std.specs.Prelude.{Ok, Some, None}
-use Rattle.pt_formula.specs.declared.node.Position.{Position}
+use Rattle.pt_base.specs.declared.Position.{Position}
 use Rattle.pt_syntax.specs.declared.sexpr.SExpr.{SExpr}
 use Rattle.pt_syntax.specs.Lists.{Script, Done, Stops, Command as Reads_list}
 use Rattle.pt_syntax.specs.Rest.{IsNextList}

@@ -2,7 +2,7 @@
 use Rattle.std.proofs.Common.{◌≡◌, ℕ, ◌≤◌, Bool, true, false, if◌then◌else◌, List, [], ◌∷◌, length, refl, sym, subst, arith}
 use Rattle.std.specs.Prelude.{Some, None, IfSome, bytes_eq}
 use Rattle.std.specs.List.{AllByRecursion}
-use Rattle.pt_formula.specs.declared.node.Position.{Position}
+use Rattle.pt_base.specs.declared.Position.{Position}
 use Rattle.pt_syntax.specs.declared.sexpr.SExpr.{SExpr}
 use Rattle.pt_grammar.specs.declared.item_forms.ItemForm.{ItemForm}
 use Rattle.pt_grammar.specs.declared.item_forms.More.{More}

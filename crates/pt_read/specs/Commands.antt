@@ -4,7 +4,7 @@ use Rattle.pt_grammar.specs.declared.verbs.Verb.TheVariants as verb
 use Rattle.std.specs.Prelude.{ℕ, nat_le, Bool, true, false, not, ◌||◌, ◌==◌, if◌then◌else◌, List, [], ◌∷◌, length, map, reverse, Option, Some, None, ℤ, pos, neg_ℤ, bytes_eq, codes, Result}
 use Rattle.std.specs.List.{list_all}
 use Rattle.pt_formula.specs.declared.node.Node.TheVariants as node
-use Rattle.pt_formula.specs.declared.node.Position.{Position}
+use Rattle.pt_base.specs.declared.Position.{Position}
 use Rattle.pt_formula.specs.declared.TheConstants.{MAX_TRACKS}
 use Rattle.pt_formula.specs.Formulas.{variables_of, contains}
 use Rattle.pt_terms.specs.declared.meaning.Meaning.TheVariants.{Bool as Truth}

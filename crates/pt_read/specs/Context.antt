@@ -9,7 +9,7 @@ use Rattle.pt_read.specs.Scope.{Assertion, State, conjunction, last_conjunction}
 use Rattle.pt_terms.specs.Names.{Symbol}
 use Rattle.pt_terms.specs.Sound.{IsUseIn, IsMeaningIn}
 use Rattle.pt_read.specs.Commands.{new_name, no_sorts, declared, list_command}
-use Rattle.pt_formula.specs.declared.node.Position.{Position}
+use Rattle.pt_base.specs.declared.Position.{Position}
 use Rattle.pt_read.specs.declared.command.Command.{Command}
 
 -- one assertion with the conjunction stands for all of them

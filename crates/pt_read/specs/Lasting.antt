@@ -1,7 +1,7 @@
 -- What is kept of a scope between two commands.
 use Rattle.std.specs.Prelude.{ℕ, ◌<◌, ◌≤◌, ◌⊎◌, ◌≡◌, nat_le, List, [], ◌∷◌, length, filter, ⊤}
 use Rattle.std.specs.List.{AllByRecursion}
-use Rattle.pt_sets.specs.Elements.{ContainsByRecursion, AnyByRecursion}
+use Rattle.pt_base.specs.Elements.{ContainsByRecursion, AnyByRecursion}
 use Rattle.pt_formula.specs.Forms.{IsIncreasing}
 use Rattle.pt_terms.specs.declared.meaning.Constant.{Constant}
 use Rattle.pt_read.specs.Scope.{State, Assertion}

@@ -1,7 +1,7 @@
 -- What a reader has left, and what its next answer may be.
 use Rattle.std.specs.Prelude.{⊤, ◌≤◌, ◌≡◌, ◌⊎◌, ◌++◌, List, length, Option, Some, None, Result, Ok, Err}
 use Rattle.pt_formula.specs.declared.node.Node.{Node}
-use Rattle.pt_formula.specs.declared.node.Position.{Position}
+use Rattle.pt_base.specs.declared.Position.{Position}
 use Rattle.pt_read.specs.declared.command.Command.{Command}
 use Rattle.pt_syntax.specs.declared.kinds.ReadRefusal.{ReadRefusal}
 use Rattle.pt_syntax.specs.Lists.{Script, Done, Stops, Command as Reads_list}

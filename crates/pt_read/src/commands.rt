@@ -1,6 +1,6 @@
 // Commands: what a list of a text asks for.
 ghost use Rattle.std.specs.Prelude.{◌<◌, ◌≤◌, length, IfOk, IfSome, ◌≡◌, Some};
-ghost use Rattle.pt_formula.specs.declared.node.Position.{Position as PositionValue};
+ghost use Rattle.pt_base.specs.declared.Position.{Position as PositionValue};
 ghost use Rattle.pt_terms.specs.Elaboration.{Work};
 ghost use Rattle.pt_read.specs.Context.{IsKindIn, IsStateIn, Stands, commanded};
 ghost use Rattle.pt_grammar.specs.declared.verbs.Verb.TheVariants as verb;

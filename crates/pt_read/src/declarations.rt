@@ -1,5 +1,5 @@
 // Declarations, definitions and assertions.
-ghost use Rattle.pt_formula.specs.declared.node.Position.{Position as PositionValue};
+ghost use Rattle.pt_base.specs.declared.Position.{Position as PositionValue};
 ghost use Rattle.std.specs.Prelude.{◌≤◌, ◌≡◌, ◌∷◌, IfErr, OnOk, ◌<◌, [], length, map, IfOk};
 ghost use Rattle.pt_syntax.specs.Rest.{no_memory as no_memory_refusal};
 ghost use Rattle.pt_terms.specs.Terms.{term, variable};

@@ -1,5 +1,5 @@
 // Predicates: definitions of sort Bool that speak of their parameters alone.
-ghost use Rattle.pt_formula.specs.declared.node.Position.{Position as PositionValue};
+ghost use Rattle.pt_base.specs.declared.Position.{Position as PositionValue};
 ghost use Rattle.std.specs.Prelude.{◌≤◌, ◌≡◌, ◌==◌, length, ◌<◌, Some, option_map, IfSome, IfOk};
 ghost use Rattle.std.specs.List.{list_all};
 ghost use Rattle.pt_formula.specs.Formulas.{contains, variables_of};

@@ -9,7 +9,7 @@ use Rattle.pt_sets.specs.Costs.{CostAbove, CostWithin, CostIs, SamePair, SameRes
 use Rattle.pt_sets.specs.Shortlex.{IsShortestWord, IsLeastMember, IsFirstMembers}
 use Rattle.pt_query.specs.Queries.{IsEmptySet, IsSubset, IsBounded, HasLetters, IsNarrow, IsFirstWide}
 use Rattle.pt_formula.specs.declared.node.Node.{Node}
-use Rattle.pt_formula.specs.declared.node.Position.{Position}
+use Rattle.pt_base.specs.declared.Position.{Position}
 use Rattle.pt_formula.specs.Truth.{Tree, Holds, Solutions, Widened, free_variables, valuation}
 use Rattle.pt_formula.specs.Formulas.{IsFormula, tree_of, position_at}
 use Rattle.pt_formula.specs.Costs.{IsRefused, NoneRefused}

@@ -2,11 +2,11 @@
 use Rattle.std.proofs.Common.{◌≡◌, inl, inr, ℕ, zero, suc, ◌<◌, List, [], ◌∷◌, length, map, refl, ap, sym, subst, ◌∙◌, arith}
 use Rattle.std.specs.Prelude.{Some, slice_get, slice_index, slice_index_or}
 use Rattle.std.specs.List.{AllByRecursion}
-use Rattle.pt_sets.specs.Elements.{AnyByRecursion}
+use Rattle.pt_base.specs.Elements.{AnyByRecursion}
 use Rattle.pt_sets.specs.Sets.{VectorSet, SameSet}
 use Rattle.pt_sets.specs.Restricting.{IsTrackMap, widened}
-use Rattle.pt_sets.specs.Lists.{Lists, Home, Extends}
-use Rattle.pt_sets.specs.Known.{Lacks}
+use Rattle.pt_known.specs.Lists.{Lists, Home, Extends}
+use Rattle.pt_known.specs.Known.{Lacks}
 use Rattle.pt_sets.proofs.Counting.{SameSet-sym, SameSet-trans}
 use Rattle.pt_handles.specs.declared.handle.Handle.{Handle}
 use Rattle.pt_handles.specs.Handles.{Has, SetOfHandle, FullOnlyWhereLacking}
@@ -14,7 +14,7 @@ use Rattle.pt_handles.specs.Laws.{LongerListsKnow}
 use Rattle.pt_store.specs.declared.fault.StoreFault.{StoreFault}
 use Rattle.pt_store.specs.declared.fault.StoreFault.TheVariants as store
 use Rattle.pt_formula.specs.declared.node.Node.{Node}
-use Rattle.pt_formula.specs.declared.node.Position.{Position}
+use Rattle.pt_base.specs.declared.Position.{Position}
 use Rattle.pt_formula.specs.Forms.{IsIncreasing}
 use Rattle.pt_formula.specs.Truth.{Solutions, Widened}
 use Rattle.pt_formula.specs.Formulas.{tree_of, variables_of}

@@ -6,7 +6,7 @@ use Rattle.pt_sets.specs.Words.{Vector}
 use Rattle.pt_sets.specs.Sets.{VectorSet, SameSet}
 use Rattle.pt_sets.specs.Costs.{CostIs, CostWithin, CostAbove, SameResidual, SamePair}
 use Rattle.pt_sets.specs.Shortlex.{IsFirstMembers}
-use Rattle.pt_sets.specs.Lists.{Lists, Home}
+use Rattle.pt_known.specs.Lists.{Lists, Home}
 use Rattle.pt_sets.proofs.Counting.{SameSet-sym, SameSet-trans}
 use Rattle.pt_handles.specs.declared.handle.Handle.{Handle}
 use Rattle.pt_handles.specs.Handles.{SetOfHandle}
@@ -14,7 +14,7 @@ use Rattle.pt_handles.specs.Laws.{TellsEqualSets}
 use Rattle.pt_query.specs.Queries.{IsEmptySet, IsSubset, IsBounded, IsNarrow, IsListCause}
 use Rattle.pt_query.specs.Laws.{TellsAlike, ComparesAlike}
 use Rattle.pt_query.specs.declared.fault.WitnessFault.TheVariants.{Wide}
-use Rattle.pt_formula.specs.declared.node.Position.{Position}
+use Rattle.pt_base.specs.declared.Position.{Position}
 use Rattle.pt_read.specs.declared.command.Predicate.{Predicate}
 use Rattle.pt_read.specs.declared.command.CommandKind.{CommandKind}
 use Rattle.pt_read.specs.declared.command.CommandKind.TheVariants as kind

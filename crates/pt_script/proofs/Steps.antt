@@ -2,7 +2,7 @@
 use Rattle.std.proofs.Common.{◌≡◌, inl, inr, ℕ, ◌<◌, ◌≤◌, true, List, [], ◌∷◌, length, map, refl, ap, sym, subst, arith}
 use Rattle.std.specs.Prelude.{Option, Some, None, IfSome, IfNone}
 use Rattle.pt_sets.specs.Sets.{VectorSet, SameSet}
-use Rattle.pt_sets.specs.Lists.{Lists, Home}
+use Rattle.pt_known.specs.Lists.{Lists, Home}
 use Rattle.pt_sets.specs.Shortlex.{IsLeastMember}
 use Rattle.pt_handles.specs.declared.handle.Handle.{Handle}
 use Rattle.pt_handles.specs.Handles.{SetOfHandle}

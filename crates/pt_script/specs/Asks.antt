@@ -1,7 +1,7 @@
 -- The sets that commands ask for, each named by a tree and the variables that it is over.
 use Rattle.std.specs.Prelude.{ℕ, ◌≡◌, ◌⊎◌, List, length, Option, None, ⊤}
 use Rattle.std.specs.List.{AllByRecursion}
-use Rattle.pt_sets.specs.Elements.{AnyByRecursion}
+use Rattle.pt_base.specs.Elements.{AnyByRecursion}
 use Rattle.pt_sets.specs.Words.{Vector}
 use Rattle.pt_formula.specs.Truth.{Tree, Solutions, Widened, free_variables}
 use Rattle.pt_formula.specs.Formulas.{tree_of, variables_of}
@@ -13,8 +13,8 @@ use Rattle.pt_read.specs.Scope.{State}
 use Rattle.pt_script.specs.declared.fault.SessionFault.{SessionFault}
 use Rattle.pt_script.specs.declared.fault.SessionFault.TheVariants.{Full}
 use Rattle.pt_script.specs.Step.{roots, predicates}
-use Rattle.pt_sets.specs.Lists.{Lists, Home}
-use Rattle.pt_sets.specs.Known.{Lacks}
+use Rattle.pt_known.specs.Lists.{Lists, Home}
+use Rattle.pt_known.specs.Known.{Lacks}
 use Rattle.pt_handles.specs.declared.handle.Handle.{Handle}
 use Rattle.pt_handles.specs.Handles.{Has}
 

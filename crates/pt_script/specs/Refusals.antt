@@ -1,7 +1,7 @@
 -- Why a command is refused where no fault was answered before.
 use Rattle.std.specs.Prelude.{ℕ, ◌<◌, ◌≡◌, Bool, true, false, List, Option, Some, None, codes, ⊤}
-use Rattle.pt_sets.specs.Lists.{Lists, Home}
-use Rattle.pt_formula.specs.declared.node.Position.{Position}
+use Rattle.pt_known.specs.Lists.{Lists, Home}
+use Rattle.pt_base.specs.declared.Position.{Position}
 use Rattle.pt_eval.specs.Evaluating.{IsFullAt}
 use Rattle.pt_read.specs.declared.command.Command.{Command}
 use Rattle.pt_read.specs.declared.command.CommandKind.{CommandKind}

@@ -1,9 +1,9 @@
 -- What a command says of sets, and why it is refused.
 use Rattle.std.specs.Prelude.{ℕ, ◌≡◌, Bool, List, length, ⊤}
-use Rattle.pt_sets.specs.Lists.{Lists, Home}
+use Rattle.pt_known.specs.Lists.{Lists, Home}
 use Rattle.pt_handles.specs.declared.handle.Handle.{Handle}
 use Rattle.pt_handles.specs.Handles.{Has}
-use Rattle.pt_formula.specs.declared.node.Position.{Position}
+use Rattle.pt_base.specs.declared.Position.{Position}
 use Rattle.pt_formula.specs.Formulas.{position_at}
 use Rattle.pt_formula.specs.Costs.{IsRefused}
 use Rattle.pt_eval.specs.Evaluating.{IsFullAt}

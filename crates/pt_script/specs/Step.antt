@@ -8,7 +8,7 @@ use Rattle.pt_sets.specs.Costs.{CostAbove, CostWithin, CostIs, SamePair, SameRes
 use Rattle.pt_sets.specs.Shortlex.{IsLeastMember, IsFirstMembers}
 use Rattle.pt_query.specs.Queries.{IsEmptySet, IsSubset, IsBounded, HasLetters, IsNarrow, IsListCause}
 use Rattle.pt_query.specs.declared.fault.WitnessFault.TheVariants.{Wide as Is_wide}
-use Rattle.pt_formula.specs.declared.node.Position.{Position}
+use Rattle.pt_base.specs.declared.Position.{Position}
 use Rattle.pt_formula.specs.declared.node.Node.{Node}
 use Rattle.pt_formula.specs.Truth.{Solutions, Widened, valuation}
 use Rattle.pt_formula.specs.Formulas.{tree_of, variables_of, position_at}

@@ -1,7 +1,7 @@
 -- What is written: values, names, lists and error lines.
 use Rattle.std.specs.Prelude.{ℕ, suc, Bool, true, false, not, ◌&&◌, if◌then◌else◌, List, [], ◌∷◌, ◌++◌, map, flat_map, ℤ, pos, negsuc, codes, decimal}
 use Rattle.std.specs.List.{list_all, join_with_byte}
-use Rattle.pt_formula.specs.declared.node.Position.{Position}
+use Rattle.pt_base.specs.declared.Position.{Position}
 use Rattle.pt_formula.specs.Oddness.{is_odd}
 use Rattle.pt_syntax.specs.declared.kinds.ReadKind.{ReadKind}
 use Rattle.pt_syntax.specs.declared.kinds.ReadKind.TheVariants.{Syntax, Unknown, Sort as WrongSort, Nonlinear, Coefficient, Unsupported, Redeclared, Depth, Tracks, Nodes, Logic, NoMemory}

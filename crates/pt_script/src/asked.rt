@@ -1,8 +1,8 @@
 // Handles of the sets that a command asks for.
 ghost use Rattle.std.specs.Prelude.{◌≡◌, ℕ, ◌<◌, ◌≤◌, ◌+◌, ◌*◌, [], ◌∷◌, IfOk, IfErr, OnOk, length};
 ghost use Rattle.std.specs.List.{AllByRecursion};
-ghost use Rattle.pt_sets.specs.Lists.{Extends};
-ghost use Rattle.pt_sets.specs.Known.{Lacks};
+ghost use Rattle.pt_known.specs.Lists.{Extends};
+ghost use Rattle.pt_known.specs.Known.{Lacks};
 ghost use Rattle.pt_formula.specs.Costs.{NoneRefused};
 ghost use Rattle.pt_eval.specs.Evaluating.{HaveSolutions, HasSolutions, HasFewResiduals, HaveFewResiduals, KnowsReached};
 ghost use Rattle.pt_read.specs.Fits.{IsPredicate};

@@ -35,7 +35,7 @@ impl Model for Session {
 
 impl Session {
     ghost use Rattle.std.specs.Prelude.{◌≡◌, ◌<◌, ◌≤◌, ◌^◌, ◌+◌, ◌*◌, ℕ, [], ◌∷◌, IfOk, IfErr, IfSome, OnOk, OnErr, length, true};
-    ghost use Rattle.pt_sets.specs.Lists.{Extends};
+    ghost use Rattle.pt_known.specs.Lists.{Extends};
     ghost use Rattle.pt_read.specs.Reader.{Answers, OnlyAdds};
     ghost use Rattle.pt_read.specs.Fits.{FitsKind};
     ghost use Rattle.pt_terms.specs.Names.{constants_in};

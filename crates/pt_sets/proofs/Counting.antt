@@ -2,7 +2,7 @@
 use Rattle.std.proofs.Common.{◌≡◌, ◌↔◌, inl, inr, ℕ, zero, suc, ◌+◌, ◌<◌, ◌≤◌, List, [], ◌∷◌, length, take, refl, ap, arith}
 use Rattle.std.specs.List.{AllByRecursion}
 use Rattle.std.proofs.lemmas.Bool.{cases_lt}
-use Rattle.pt_sets.specs.Elements.{AnyByRecursion, PairsByRecursion}
+use Rattle.pt_base.specs.Elements.{AnyByRecursion, PairsByRecursion}
 use Rattle.pt_sets.specs.Words.{Vector, AreLetters}
 use Rattle.pt_sets.specs.Sets.{SameSet, residual_by}
 use Rattle.pt_sets.specs.Costs.{AreDifferent, CostAbove, CostWithin, CostIs, IsEquivalence, SameResidual, SamePair, SameFamily, IncludesFamily}

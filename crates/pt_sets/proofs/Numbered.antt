@@ -6,12 +6,12 @@ use Rattle.std.proofs.lemmas.List.{get_or_append_left, get_or_push}
 use Rattle.std.proofs.lemmas.Option.{slice_get_within, slice_get-get_or, get_or_from_slice_get}
 use Rattle.pt_sets.specs.Words.{IsLetter, AreLetters}
 use Rattle.pt_sets.specs.Automata.{Automaton, IsAutomaton, next_of, output_of, language_of}
-use Rattle.pt_sets.specs.Elements.{PairsByRecursion}
+use Rattle.pt_base.specs.Elements.{PairsByRecursion}
 use Rattle.pt_sets.specs.Costs.{CostIs, CostAbove}
 use Rattle.pt_sets.specs.Numbering.{Numbering, IsReached, Adds}
-use Rattle.pt_sets.proofs.Members.{In, In-get_or}
+use Rattle.pt_base.proofs.Members.{In, In-get_or}
 use Rattle.pt_sets.proofs.Languages.{AreLetters-append}
-use Rattle.pt_sets.proofs.Cells.{cell-within}
+use Rattle.pt_base.proofs.Cells.{cell-within}
 use Rattle.pt_sets.proofs.Valued.{cost-above, has-cost, closed-all}
 
 -- lists with one more item

@@ -10,7 +10,7 @@ use Rattle.std.proofs.Math.Pow.{pow-lt}
 use Rattle.pt_sets.specs.Words.{IsLetter, AreLetters}
 use Rattle.pt_sets.specs.Languages.{Language, SameLanguage, quotient}
 use Rattle.pt_sets.specs.Costs.{restricted}
-use Rattle.pt_sets.specs.Elements.{PairsByRecursion}
+use Rattle.pt_base.specs.Elements.{PairsByRecursion}
 use Rattle.pt_sets.specs.Restricting.{IsTrackMap, restricted_all, widened_language}
 
 -- a letter restricts to a letter

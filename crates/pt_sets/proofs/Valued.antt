@@ -3,10 +3,10 @@ use Rattle.std.proofs.Common.{◌≡◌, ◌≢◌, inl, inr, ℕ, suc, ◌+◌,
 use Rattle.std.specs.List.{AllByRecursion}
 use Rattle.std.proofs.lemmas.List.{append-nil}
 use Rattle.pt_sets.specs.Words.{IsLetter, AreLetters}
-use Rattle.pt_sets.specs.Elements.{AnyByRecursion, PairsByRecursion}
+use Rattle.pt_base.specs.Elements.{AnyByRecursion, PairsByRecursion}
 use Rattle.pt_sets.specs.Costs.{CostAbove, CostIs}
 use Rattle.pt_sets.specs.Numbering.{IsReached}
-use Rattle.pt_sets.proofs.Members.{In}
+use Rattle.pt_base.proofs.Members.{In}
 use Rattle.pt_sets.proofs.Languages.{AreLetters-append}
 
 module _ {V : Type 0} (t : ℕ) (Stands : List ℕ → V → Type 0) where

@@ -1,4 +1,3 @@
-pub mod Elements
 pub mod Words
 pub mod Sets
 pub mod Languages
@@ -7,7 +6,3 @@ pub mod Costs
 pub mod Restricting
 pub mod Numbering
 pub mod Shortlex
-pub mod Components
-pub mod Lists
-pub mod Known
-pub mod Realizing

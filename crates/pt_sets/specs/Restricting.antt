@@ -1,7 +1,7 @@
 -- Letters, vectors and sets over some of the tracks.
 use Rattle.std.specs.Prelude.{◌≡◌, ℕ, ◌<◌, List, length, map, slice_index_or, pos}
 use Rattle.std.specs.List.{AllByRecursion}
-use Rattle.pt_sets.specs.Elements.{PairsByRecursion}
+use Rattle.pt_base.specs.Elements.{PairsByRecursion}
 use Rattle.pt_sets.specs.Words.{Vector}
 use Rattle.pt_sets.specs.Sets.{VectorSet}
 use Rattle.pt_sets.specs.Languages.{Language}

@@ -1,4 +1,4 @@
-//! Integer vectors, automata over their digits, and lists of components: the definitions that contracts cite.
+//! Integer vectors, sets of vectors, and automata over their digits: the definitions that contracts cite.
 #![tactic(auto)]
 
 pub mod cost_laws;
@@ -7,24 +7,3 @@ pub mod order_laws;
 pub mod set;
 pub mod state_laws;
 pub mod word_laws;
-
-/// A position in the list of a shard.
-#[derive(Clone, Copy, Debug, PartialEq, Eq, Hash)]
-pub struct Place {
-    pub shard: u32,
-    pub index: u32,
-}
-
-/// A state of another component.
-#[derive(Clone, Copy, Debug, PartialEq, Eq, Hash)]
-pub struct Exit {
-    pub place: Place,
-    pub entry: u32,
-}
-
-/// Where an edge of a component leads.
-#[derive(Clone, Copy, Debug, PartialEq, Eq)]
-pub enum Edge {
-    Near(u32),
-    Far(Exit),
-}

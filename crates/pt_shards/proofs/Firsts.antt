@@ -4,8 +4,8 @@ use Rattle.std.specs.Option.{option_or}
 use Rattle.std.specs.Map.{lookup}
 use Rattle.std.specs.Cmp.Lexicographic.{same_text, nat_list_eq_equiv}
 use Rattle.std.proofs.lemmas.List.{take-append-drop}
-use Rattle.pt_sets.specs.Lists.{code_eq}
-use Rattle.pt_sets.proofs.Positions.{position-append, position-parts, position-push}
+use Rattle.pt_known.specs.Lists.{code_eq}
+use Rattle.pt_base.proofs.Positions.{position-append, position-parts, position-push}
 use Rattle.pt_shards.specs.Shards.{IsIndex, Begins}
 
 -- where a list that begins another has no first position, that of the other stands behind it

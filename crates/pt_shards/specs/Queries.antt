@@ -3,7 +3,7 @@ use Rattle.std.specs.Prelude.{◌≡◌, ℕ, Bool, true, false, ◌&&◌, List,
 use Rattle.std.proofs.Common.{ap, ◌∙◌}
 use Rattle.std.specs.Cmp.{unsigned_Decides}
 use Rattle.std.specs.Cmp.Lexicographic.{bytes_decides}
-use Rattle.pt_sets.specs.Lists.{code_eq}
+use Rattle.pt_known.specs.Lists.{code_eq}
 use Rattle.pt_shards.specs.Shards.{hash_of}
 
 -- the numbers that they hash to are compared first

@@ -1,6 +1,6 @@
 -- The list of one shard, in which a code may stand again.
 use Rattle.std.specs.Prelude.{◌≡◌, ℕ, ◌+◌, ◌*◌, ◌%◌, ◌^◌, ◌<◌, max, List, Option, length, take, fold, position, slice_get}
-use Rattle.pt_sets.specs.Lists.{code_eq}
+use Rattle.pt_known.specs.Lists.{code_eq}
 
 -- the number that a code hashes to: a polynomial of its numbers
 abbrev pub hash_of : List ℕ → ℕ

@@ -5,7 +5,7 @@ ghost use Rattle.std.specs.Hash as fed;
 ghost use Rattle.std.specs.Cmp.Lexicographic.{pointwise};
 ghost use Rattle.std.specs.Cmp.Rules.{comparing, hashing};
 ghost use Rattle.std.proofs.Common.{rules, ap};
-ghost use Rattle.pt_sets.specs.Lists.{code_eq};
+ghost use Rattle.pt_known.specs.Lists.{code_eq};
 ghost use Rattle.pt_shards.specs.Shards.{hash_of};
 ghost use Rattle.pt_shards.specs.Queries.{is_asked, is_asked-hash, is_asked-eq};
 

@@ -2,7 +2,7 @@
 ghost use Rattle.std.specs.Prelude.{◌≡◌, ℕ, ◌+◌, ◌<◌, ◌≤◌, ◌^◌, [], ◌∷◌, ◌++◌, List, cond, length, option_map, position, slice_get, IfOk, IsOk, OnOk, OnErr, Some, None};
 ghost use Rattle.std.specs.Option.{option_or};
 ghost use Rattle.indexmap.specs.IndexMap.{get, index_map_len, spare, IsEmpty};
-ghost use Rattle.pt_sets.specs.Lists.{code_eq};
+ghost use Rattle.pt_known.specs.Lists.{code_eq};
 ghost use Rattle.pt_shards.specs.Shards.{hash_of};
 
 use crate::hashed::{HashedCode, Query};
@@ -22,7 +22,7 @@ pub(crate) struct Indexed {
 impl Model for Indexed {
     ghost use Rattle.std.specs.Prelude.{List, ℕ, length, ◌≤◌};
     ghost use Rattle.indexmap.specs.IndexMap.{get};
-    ghost use Rattle.pt_sets.specs.Lists.{code_eq};
+    ghost use Rattle.pt_known.specs.Lists.{code_eq};
     ghost use Rattle.pt_shards.specs.Shards.{IsIndex};
 
     ghost Value = { List (List ℕ) };

@@ -1,7 +1,7 @@
 // Laws of lists of codes, each proved of all lists.
 ghost use Rattle.std.specs.Prelude.{◌≡◌, ◌+◌, ◌≤◌, [], ◌∷◌, ◌++◌, List, ℕ, None, Some, cond, length, option_map, position};
 ghost use Rattle.std.specs.Option.{option_or};
-ghost use Rattle.pt_sets.specs.Lists.{code_eq};
+ghost use Rattle.pt_known.specs.Lists.{code_eq};
 ghost use Rattle.pt_shards.specs.Shards.{Begins, Agree};
 
 /// Of two lists that agree the shorter begins the longer, and a list agrees with each that it begins. A list that begins

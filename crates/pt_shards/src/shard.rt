@@ -1,7 +1,7 @@
 // The list of one shard.
 ghost use Rattle.std.specs.Prelude.{◌≡◌, ◌+◌, ◌<◌, ◌≤◌, [], ◌∷◌, ◌++◌, length, option_map, position, slice_get, IfOk, OnOk, OnErr};
 ghost use Rattle.std.specs.Arc.{arc_value};
-ghost use Rattle.pt_sets.specs.Lists.{code_eq};
+ghost use Rattle.pt_known.specs.Lists.{code_eq};
 ghost use Rattle.pt_shards.specs.Shards.{hash_of, Agree, JoinsLists};
 
 use crate::hashed::{HashedCode, Query};

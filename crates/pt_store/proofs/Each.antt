@@ -4,8 +4,8 @@ use Rattle.std.proofs.Math.ListN.{length-set, get_or-append}
 use Rattle.std.proofs.Math.Seq.{take-length, get_or-append_seam}
 use Rattle.std.proofs.lemmas.Bool.{cases_lt, cases_eq}
 use Rattle.std.proofs.lemmas.List.{get_or-map, map-set, length-map}
-use Rattle.pt_sets.specs.Lists.{Lists, list_of, Extends}
-use Rattle.pt_sets.proofs.ListLaws.{Extends-trans}
+use Rattle.pt_known.specs.Lists.{Lists, list_of, Extends}
+use Rattle.pt_known.proofs.ListLaws.{Extends-trans}
 use Rattle.pt_shards.specs.Shards.{Begins}
 use Rattle.pt_cells.specs.Seeing.{Cells, Seen}
 use Rattle.pt_store.specs.Shared.{AtEach, lists_of}

@@ -2,8 +2,8 @@
 use Rattle.std.proofs.Common.{◌≡◌, inl, inr, ℕ, ◌<◌, ◌≤◌, [], length, ap, arith}
 use Rattle.std.proofs.lemmas.Bool.{cases_lt}
 use Rattle.std.proofs.lemmas.List.{get_or_past}
-use Rattle.pt_sets.specs.Lists.{Lists, list_of, Extends, IsWithin}
-use Rattle.pt_sets.proofs.Prefixes.{prefix-length}
+use Rattle.pt_known.specs.Lists.{Lists, list_of, Extends, IsWithin}
+use Rattle.pt_base.proofs.Prefixes.{prefix-length}
 
 -- a list at its limit stays at it in longer lists
 pub full-longer : (limit : ℕ) (old new : Lists) (shard : ℕ) → Extends old new → IsWithin limit new → length (list_of old shard) ≡ limit → length (list_of new shard) ≡ limit

@@ -5,10 +5,10 @@ use Rattle.std.specs.Cmp.Lexicographic.{nat_list_eq_equiv}
 use Rattle.std.proofs.lemmas.Bool.{cases_eq}
 use Rattle.std.proofs.lemmas.List.Sums.{fails_before_first}
 use Rattle.std.proofs.lemmas.Option.{slice_get_within, get_or_from_slice_get}
-use Rattle.pt_sets.specs.declared.Place.{Place}
-use Rattle.pt_sets.specs.Lists.{Lists, Home, list_of, code_at, code_eq}
+use Rattle.pt_known.specs.declared.Place.{Place}
+use Rattle.pt_known.specs.Lists.{Lists, Home, list_of, code_at, code_eq}
 use Rattle.pt_store.specs.Local.{StandsOnce, push_code}
-use Rattle.pt_sets.proofs.Positions.{position_or_len-none}
+use Rattle.pt_base.proofs.Positions.{position_or_len-none}
 use Rattle.pt_store.proofs.Interned.{list_of-push_other, list_of-push_same}
 
 -- what stands in a list after a push stood there, or is what was pushed

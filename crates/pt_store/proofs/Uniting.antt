@@ -3,7 +3,7 @@ use Rattle.std.proofs.Common.{◌≡◌, inl, inr, ℕ, ◌+◌, ◌<◌, ◌≤
 use Rattle.std.proofs.Math.Seq.{get_or-append_seam}
 use Rattle.std.proofs.lemmas.Bool.{cases_eq}
 use Rattle.std.proofs.lemmas.List.{get_or_past}
-use Rattle.pt_sets.specs.Lists.{Lists, list_of}
+use Rattle.pt_known.specs.Lists.{Lists, list_of}
 use Rattle.pt_store.specs.Interning.{Joins}
 use Rattle.pt_shards.specs.Shards.{JoinsLists}
 use Rattle.pt_cells.specs.Seeing.{Seen}

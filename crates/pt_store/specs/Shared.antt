@@ -1,7 +1,7 @@
 -- A store for several threads, by a shard of set-once cells for each list.
 use Rattle.std.specs.Prelude.{◌≡◌, ℕ, ◌<◌, ◌≤◌, List, All, length, map, slice_index_or}
-use Rattle.pt_sets.specs.Lists.{Lists}
-use Rattle.pt_sets.specs.declared.Place.{Place}
+use Rattle.pt_known.specs.Lists.{Lists}
+use Rattle.pt_known.specs.declared.Place.{Place}
 use Rattle.pt_cells.specs.Seeing.{Cells, Seen, IsOf}
 
 -- this holds of each shard and the pass over it

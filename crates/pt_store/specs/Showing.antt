@@ -2,7 +2,7 @@
 use Rattle.std.proofs.Common.{◌≡◌, ℕ, ◌<◌, ◌≤◌, List, [], ◌∷◌, All, length, get_or, sym, subst}
 use Rattle.std.proofs.Math.Nat.{not-suc-le-zero, zero-lt-suc, lt_irrefl}
 use Rattle.std.proofs.lemmas.List.{get_or-map, length-map}
-use Rattle.pt_sets.specs.Lists.{IsWithin}
+use Rattle.pt_known.specs.Lists.{IsWithin}
 use Rattle.pt_cells.specs.Seeing.{Cells, Seen, IsOf}
 use Rattle.pt_store.specs.Shared.{AtEach, Shards, AreShards, lists_of}
 

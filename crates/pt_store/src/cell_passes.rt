@@ -1,7 +1,7 @@
 // Passes over all shards, each with its cells, in order.
 ghost use Rattle.std.specs.Prelude.{◌≡◌, ◌<◌, ◌≤◌, ◌+◌, ℕ, All, length, position, option_map, IfOk, IfErr, None, Some};
 ghost use Rattle.std.specs.Arc.{arc_value};
-ghost use Rattle.pt_sets.specs.Lists.{Extends, code_at, list_of, code_eq};
+ghost use Rattle.pt_known.specs.Lists.{Extends, code_at, list_of, code_eq};
 ghost use Rattle.pt_cells.specs.Seeing.{Cells, IsOf, RefusesFull};
 ghost use Rattle.pt_store.specs.Interning.{ChangesOnly, Joins};
 ghost use Rattle.pt_store.specs.Shared.{AtEach, lists_of, place_at};

@@ -1,6 +1,6 @@
 // Laws of lists of codes, each proved of all lists.
 ghost use Rattle.std.specs.Prelude.{ℕ, ◌≡◌, length};
-ghost use Rattle.pt_sets.specs.Lists.{Lists, list_of, Extends, IsWithin};
+ghost use Rattle.pt_known.specs.Lists.{Lists, list_of, Extends, IsWithin};
 ghost use Rattle.pt_store.specs.Interning.{Joins};
 ghost use Rattle.pt_shards.specs.Shards.{JoinsLists};
 

@@ -1,7 +1,7 @@
 // A store for several threads, by a shard of set-once cells for each list.
 ghost use Rattle.std.specs.Prelude.{◌≡◌, ◌<◌, ◌≤◌, [], length, replicate, IfOk};
 ghost use Rattle.std.specs.Arc.{arc_value};
-ghost use Rattle.pt_sets.specs.Lists.{find};
+ghost use Rattle.pt_known.specs.Lists.{find};
 ghost use Rattle.pt_store.specs.Shared.{Owns, lists_of};
 ghost use Rattle.pt_store.specs.Showing.{lists-some, lists-within};
 

@@ -1,7 +1,7 @@
 // Callers of stores over their bounds alone, and tables of calls over a store for one thread.
 ghost use Rattle.std.specs.Prelude.{◌≡◌, Some, IfOk};
 ghost use Rattle.std.specs.Arc.{arc_value};
-ghost use Rattle.pt_sets.specs.Lists.{find, Extends};
+ghost use Rattle.pt_known.specs.Lists.{find, Extends};
 ghost use Rattle.pt_store.specs.Local.{Owns};
 
 use crate::*;

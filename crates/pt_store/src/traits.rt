@@ -1,7 +1,7 @@
 // What a store promises.
 ghost use Rattle.std.specs.Prelude.{◌≡◌, ℕ, ◌<◌, ◌≤◌, List, length, option_map, IfSome, IfNone, IfOk, IfErr, OnOk, OnErr, Some, None};
 ghost use Rattle.std.specs.Arc.{arc_value};
-ghost use Rattle.pt_sets.specs.Lists.{Lists, list_of, code_at, find, Extends, IsWithin};
+ghost use Rattle.pt_known.specs.Lists.{Lists, list_of, code_at, find, Extends, IsWithin};
 ghost use Rattle.pt_store.specs.Interning.{one_more, ChangesOnly, IsLast, RefusesFull, Joins, joint};
 
 use crate::fault::{JoinRefused, NoMemory, StoreFault};

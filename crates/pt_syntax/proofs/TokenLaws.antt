@@ -1,7 +1,7 @@
 -- Tokens from a later place, which a reader's loop stands at.
 use Rattle.std.proofs.Common.{◌≡◌, ℕ, zero, suc, ◌+◌, ◌-◌, ◌<◌, ◌≤◌, ◌∙◌, ap, sym, List, [], ◌∷◌, length, take, drop, get_or, refl, arith}
 use Rattle.std.proofs.lemmas.List.{drop_more, drop-drop}
-use Rattle.pt_formula.specs.declared.node.Position.{Position}
+use Rattle.pt_base.specs.declared.Position.{Position}
 use Rattle.pt_syntax.specs.declared.token.Cursor.{Cursor}
 use Rattle.pt_syntax.specs.Lexemes.{Lexeme, Unclosed, Malformed, Fails, tokens_from, bytes_left, next_place, place_behind, lexeme, extent, with_lexeme}
 use Rattle.pt_syntax.specs.Fronts.{front_lexeme}

@@ -1,7 +1,7 @@
 -- Tokens. What stands at the front of a text, as the longest run; and the tokens of a whole text, with their positions.
 use Rattle.std.specs.Prelude.{ℕ, zero, suc, ◌+◌, ◌-◌, Bool, true, false, not, ◌&&◌, ◌||◌, ◌==◌, if◌then◌else◌, List, [], ◌∷◌, length, Option, Some, None, option_map, take_while, fold}
 use Rattle.std.specs.List.{list_any, list_all, before_first, after_first}
-use Rattle.pt_formula.specs.declared.node.Position.{Position}
+use Rattle.pt_base.specs.declared.Position.{Position}
 use Rattle.pt_syntax.specs.declared.sexpr.Leaf.{Leaf}
 use Rattle.pt_syntax.specs.declared.sexpr.Leaf.TheVariants.{Numeral, Constant, Text, Symbol, Keyword}
 use Rattle.pt_syntax.specs.Bytes.{is_space, ends_line, is_digit, is_symbol_byte, is_printable, is_hexadecimal, is_binary, is_numeral, all_of}

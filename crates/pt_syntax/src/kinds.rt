@@ -2,7 +2,7 @@ ghost use Rattle.std.specs.Prelude.{◌≡◌};
 ghost use Rattle.pt_syntax.specs.Rest.{no_memory as no_memory_refusal};
 
 use pt_digits::NoMemory;
-use pt_formula::Position;
+use pt_base::Position;
 use std::alloc::{AllocError, AllocFailed};
 
 /// Why a text is refused.

@@ -12,7 +12,7 @@ mod token;
 
 pub use bytes::{is_decimal_digit, is_in_symbol};
 pub use kinds::{ReadKind, ReadRefusal, no_memory};
-pub use pt_formula::Position;
+pub use pt_base::Position;
 pub use reader::ListReader;
 pub use sexpr::{Leaf, SExpr, TopList};
 

@@ -6,7 +6,7 @@ ghost use Rattle.pt_syntax.specs.Cursors.{GivesItems, GivesList};
 use crate::kinds::{ReadKind, ReadRefusal};
 use crate::sexpr::{SExpr, TopList};
 use crate::token::{Cursor, Found, Token, next_token, syntax};
-use pt_formula::Position;
+use pt_base::Position;
 use sqlite_items::Items;
 use std::alloc::Global;
 

@@ -2,7 +2,7 @@ use crate::kinds::ReadRefusal;
 use crate::nested::list_at;
 use crate::sexpr::TopList;
 use crate::token::Cursor;
-use pt_formula::Position;
+use pt_base::Position;
 use std::alloc::Global;
 use std::marker::Model;
 

@@ -1,6 +1,6 @@
 // `Items` is the growable list of which a type may hold lists of itself, as an expression holds a list of expressions: a
 // `Vec` behind a model may not. Nothing else of its crate is used, and no database.
-use pt_formula::Position;
+use pt_base::Position;
 use sqlite_items::Items;
 
 /// What stands between parentheses.

@@ -8,7 +8,7 @@ ghost use Rattle.pt_syntax.specs.Cursors.{IsBehind, IsNextToken};
 use crate::front::{Front, WordKind, front_at};
 use crate::kinds::{ReadKind, ReadRefusal};
 use crate::sexpr::Leaf;
-use pt_formula::Position;
+use pt_base::Position;
 use sqlite_items::Items;
 use std::alloc::{AllocError, Global};
 

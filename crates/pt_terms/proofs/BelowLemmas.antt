@@ -5,7 +5,7 @@ use Rattle.std.specs.List.{AllByRecursion}
 use Rattle.std.proofs.lemmas.Bool.Decides.{nat_tests}
 use Rattle.pt_formula.specs.declared.node.Node.{Node}
 use Rattle.pt_formula.specs.declared.node.Node.TheVariants as node
-use Rattle.pt_formula.specs.declared.node.Position.{Position}
+use Rattle.pt_base.specs.declared.Position.{Position}
 use Rattle.pt_formula.specs.declared.TheConstants.{MAX_TRACKS, MAX_NODES}
 use Rattle.pt_formula.specs.declared.Op.{Op}
 use Rattle.pt_formula.specs.declared.Op.TheVariants as op

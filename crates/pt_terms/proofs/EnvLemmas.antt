@@ -9,7 +9,7 @@ use Rattle.pt_terms.specs.declared.meaning.Bound.{Bound}
 use Rattle.pt_terms.specs.declared.meaning.Bound.TheVariants.{Variable, Term as Standing}
 use Rattle.pt_terms.specs.Terms.{as_bound, binding}
 use Rattle.pt_terms.specs.Layers.{pair}
-use Rattle.pt_formula.specs.declared.node.Position.{Position}
+use Rattle.pt_base.specs.declared.Position.{Position}
 use Rattle.pt_syntax.specs.declared.kinds.ReadKind.TheVariants.{Sort}
 use Rattle.pt_terms.specs.declared.meaning.Meaning.{Meaning}
 use Rattle.pt_terms.specs.Elaboration.{Work, Elab}

@@ -3,7 +3,7 @@ use Rattle.std.proofs.Common.{ℕ, zero, suc, ◌+◌, ◌≤◌, ◌^◌, Bool,
 use Rattle.std.specs.Prelude.{pos, nat_lt, bytes_eq, codes, sum_by}
 use Rattle.std.proofs.lemmas.List.Sums.{sum_by-cons, sum_by-le-sum_by}
 use Rattle.pt_formula.specs.declared.node.Node.TheVariants as node
-use Rattle.pt_formula.specs.declared.node.Position.{Position}
+use Rattle.pt_base.specs.declared.Position.{Position}
 use Rattle.pt_syntax.specs.declared.kinds.ReadKind.TheVariants.{Syntax, Unknown, Sort, Coefficient, Unsupported, Redeclared}
 use Rattle.pt_syntax.specs.declared.sexpr.Leaf.{Leaf}
 use Rattle.pt_syntax.specs.declared.sexpr.Leaf.TheVariants.{Numeral, Constant, Text, Symbol, Keyword}

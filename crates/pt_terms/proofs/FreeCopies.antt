@@ -3,10 +3,10 @@ use Rattle.std.proofs.Common.{◌≡◌, ◌⊎◌, inl, inr, ℕ, zero, suc, �
 use Rattle.std.proofs.lemmas.Bool.Decides.{nat_tests}
 use Rattle.std.specs.Prelude.{Option, Some, None, pos, ⊤, filter, ◌-ℤ◌}
 use Rattle.std.specs.List.{AllByRecursion, range_with_len}
-use Rattle.pt_sets.specs.Elements.{ContainsByRecursion}
+use Rattle.pt_base.specs.Elements.{ContainsByRecursion}
 use Rattle.pt_formula.specs.declared.node.Node.{Node}
 use Rattle.pt_formula.specs.declared.node.Node.TheVariants as node
-use Rattle.pt_formula.specs.declared.node.Position.{Position}
+use Rattle.pt_base.specs.declared.Position.{Position}
 use Rattle.pt_formula.specs.declared.form.Form.{Form}
 use Rattle.pt_formula.specs.Forms.{Monomial}
 use Rattle.pt_formula.specs.Sums.{form_sum, form_scale}

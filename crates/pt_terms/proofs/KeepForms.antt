@@ -3,7 +3,7 @@ use Rattle.std.proofs.Common.{◌≡◌, ℕ, ◌<◌, ◌==◌, nat_lt, not, Bo
 use Rattle.std.proofs.lemmas.Bool.Decides.{nat_tests}
 use Rattle.std.specs.Prelude.{ℤ, pos, negsuc, ◌+ℤ◌, ◌*ℤ◌, ◌^◌}
 use Rattle.std.specs.List.{AllByRecursion}
-use Rattle.pt_formula.specs.declared.node.Position.{Position}
+use Rattle.pt_base.specs.declared.Position.{Position}
 use Rattle.pt_formula.specs.declared.form.Form.{Form}
 use Rattle.pt_formula.specs.Forms.{Monomial, is_zero, IsIncreasing, AreTerms}
 use Rattle.pt_formula.specs.Sums.{fits, fits_terms, fits_form, has_few_terms, term_list, add_term, sum_terms, scale_terms, form_sum, form_difference, form_scale, IsForm}

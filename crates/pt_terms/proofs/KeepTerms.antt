@@ -6,7 +6,7 @@ use Rattle.std.specs.List.{AllByRecursion}
 use Rattle.pt_atoms.specs.Atoms.{IsModulus}
 use Rattle.pt_atoms.specs.declared.Kind.TheVariants.{Mod}
 use Rattle.pt_formula.specs.declared.node.Node.TheVariants as node
-use Rattle.pt_formula.specs.declared.node.Position.{Position}
+use Rattle.pt_base.specs.declared.Position.{Position}
 use Rattle.pt_syntax.specs.declared.sexpr.Leaf.{Leaf}
 use Rattle.pt_syntax.specs.declared.sexpr.Leaf.TheVariants.{Numeral, Constant, Text, Symbol, Keyword}
 use Rattle.pt_syntax.specs.declared.sexpr.SExpr.{SExpr, out-SExpr}

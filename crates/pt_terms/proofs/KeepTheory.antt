@@ -7,7 +7,7 @@ use Rattle.pt_atoms.specs.declared.Kind.{Kind}
 use Rattle.pt_atoms.specs.declared.Kind.TheVariants.{Eq, Le, Mod}
 use Rattle.pt_formula.specs.declared.node.Node.{Node}
 use Rattle.pt_formula.specs.declared.node.Node.TheVariants as node
-use Rattle.pt_formula.specs.declared.node.Position.{Position}
+use Rattle.pt_base.specs.declared.Position.{Position}
 use Rattle.pt_formula.specs.declared.form.Form.{Form}
 use Rattle.pt_formula.specs.Forms.{Monomial, AreTerms}
 use Rattle.pt_formula.specs.Sums.{fits, form_sum, form_difference, form_scale}

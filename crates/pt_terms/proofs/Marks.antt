@@ -4,7 +4,7 @@ use Rattle.std.specs.Prelude.{slice_set, slice_get, None, replicate}
 use Rattle.std.specs.List.{AllByRecursion, range_with_len}
 use Rattle.std.proofs.lemmas.List.{get_or-set_same, get_or-set_other, length-set}
 use Rattle.std.proofs.lemmas.Bool.Decides.{nat_tests}
-use Rattle.pt_sets.specs.Elements.{ContainsByRecursion}
+use Rattle.pt_base.specs.Elements.{ContainsByRecursion}
 use Rattle.pt_formula.specs.Formulas.{node_at, entry_node, children, IsFormula}
 use Rattle.pt_terms.specs.Theory.{reaches_within}
 use Rattle.pt_terms.specs.Copies.{marked_all, marks_of}

@@ -2,7 +2,7 @@
 use Rattle.std.proofs.Common.{◌≡◌, inl, inr, ℕ, ◌+◌, ◌-◌, ◌<◌, ◌≤◌, List, ◌∷◌, ◌++◌, map, take, drop, get_or, length, Option, Some, sym, subst, ◌∙◌, add-one, drop-cons, arith}
 use Rattle.std.proofs.lemmas.List.{take-append-drop}
 use Rattle.std.specs.Prelude.{Result, Ok}
-use Rattle.pt_formula.specs.declared.node.Position.{Position}
+use Rattle.pt_base.specs.declared.Position.{Position}
 use Rattle.pt_syntax.specs.declared.kinds.ReadRefusal.{ReadRefusal}
 use Rattle.pt_terms.specs.Elaboration.{Work, Elab, ◌>>=◌}
 use Rattle.pt_terms.specs.Gives.{Fails}

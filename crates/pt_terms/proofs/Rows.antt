@@ -1,7 +1,7 @@
 -- Rows of pairs.
 use Rattle.std.proofs.Common.{◌≡◌, ℕ, zero, suc, ◌+◌, ◌<◌, List, [], ◌∷◌, ◌++◌, map, drop, get_or, length, refl, ap, subst, arith}
 use Rattle.std.specs.Prelude.{Result, Ok, Option}
-use Rattle.pt_formula.specs.declared.node.Position.{Position}
+use Rattle.pt_base.specs.declared.Position.{Position}
 use Rattle.pt_syntax.specs.declared.kinds.ReadRefusal.{ReadRefusal}
 use Rattle.pt_terms.specs.Elaboration.{Work, Elab, ◌>>=◌}
 use Rattle.pt_terms.specs.Gives.{Fails}

@@ -1,7 +1,7 @@
 -- One turn of a loop over steps.
 use Rattle.std.proofs.Common.{◌≡◌, inl, inr, ℕ, suc, ◌+◌, ◌<◌, List, [], ◌∷◌, ◌++◌, drop, get_or, length, add-one, Option, refl, ap, sym, subst, ◌∙◌, drop-cons, append_assoc}
 use Rattle.std.specs.Prelude.{Result, Ok, Err}
-use Rattle.pt_formula.specs.declared.node.Position.{Position}
+use Rattle.pt_base.specs.declared.Position.{Position}
 use Rattle.pt_syntax.specs.declared.kinds.ReadRefusal.{ReadRefusal}
 use Rattle.pt_terms.specs.Elaboration.{Work, Elab, give, follow, ◌>>=◌, each}
 use Rattle.pt_terms.specs.Gives.{Fails}

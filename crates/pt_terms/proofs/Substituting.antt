@@ -1,7 +1,7 @@
 -- Turns of the loops of applications.
 use Rattle.std.proofs.Common.{◌≡◌, ℕ, ◌+◌, ◌<◌, List, ◌∷◌, drop, get_or, length, refl, ap, sym, subst, ◌∙◌, add-one, drop-cons}
 use Rattle.std.specs.Prelude.{Result, Ok, Err}
-use Rattle.pt_formula.specs.declared.node.Position.{Position}
+use Rattle.pt_base.specs.declared.Position.{Position}
 use Rattle.pt_formula.specs.declared.form.Form.{Form}
 use Rattle.pt_formula.specs.Forms.{Monomial}
 use Rattle.pt_formula.specs.Sums.{form_sum, form_scale}

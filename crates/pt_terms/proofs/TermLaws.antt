@@ -2,7 +2,7 @@
 use Rattle.std.proofs.Common.{◌≡◌, inl, inr, ℕ, ◌<◌, List, [], ◌∷◌, ◌++◌, length, sym, ap, subst, ◌∙◌, arith}
 use Rattle.std.specs.Prelude.{⊤}
 use Rattle.std.specs.List.{AllByRecursion}
-use Rattle.pt_sets.specs.Elements.{ContainsByRecursion}
+use Rattle.pt_base.specs.Elements.{ContainsByRecursion}
 use Rattle.pt_formula.specs.Formulas.{node_at, children, entry_node, node_tree, tree_of, variables_of, IsFormula}
 use Rattle.pt_terms.specs.Terms.{term}
 use Rattle.pt_terms.specs.Free.{Nodes, IsWhole, Outside, AreTermsOver}

@@ -1,6 +1,6 @@
 -- Terms, a layer at a time.
 use Rattle.std.proofs.Common.{◌≡◌, ℕ, zero, suc, ◌<◌, ◌-◌, List, [], ◌∷◌, ap, sym, ◌∙◌, arith}
-use Rattle.pt_formula.specs.declared.node.Position.{Position}
+use Rattle.pt_base.specs.declared.Position.{Position}
 use Rattle.pt_syntax.specs.declared.sexpr.Leaf.{Leaf}
 use Rattle.pt_syntax.specs.declared.sexpr.SExpr.{SExpr, out-SExpr, out-roll-SExpr}
 use Rattle.pt_syntax.specs.declared.sexpr.SExpr.TheOpen as layer

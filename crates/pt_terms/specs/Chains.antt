@@ -1,7 +1,7 @@
 -- Conjunctions of pairs, as far as they have come.
 use Rattle.std.specs.Prelude.{ℕ, List, [], ◌∷◌, map, Option, Some, None}
 use Rattle.pt_formula.specs.declared.node.Node.TheVariants as node
-use Rattle.pt_formula.specs.declared.node.Position.{Position}
+use Rattle.pt_base.specs.declared.Position.{Position}
 use Rattle.pt_formula.specs.declared.node.Node.{Node}
 use Rattle.pt_syntax.specs.declared.kinds.ReadKind.TheVariants.{Sort}
 use Rattle.pt_terms.specs.declared.meaning.Meaning.{Meaning}

@@ -3,7 +3,7 @@ use Rattle.std.specs.Prelude.{ℕ, ◌+◌, ◌<◌, Bool, true, false, List, []
 use Rattle.std.specs.List.{range_with_len}
 use Rattle.pt_formula.specs.declared.node.Node.{Node}
 use Rattle.pt_formula.specs.declared.node.Node.TheVariants as node
-use Rattle.pt_formula.specs.declared.node.Position.{Position}
+use Rattle.pt_base.specs.declared.Position.{Position}
 use Rattle.pt_formula.specs.declared.form.Form.{Form}
 use Rattle.pt_formula.specs.Forms.{Monomial}
 use Rattle.pt_formula.specs.Sums.{form_sum, form_scale}

@@ -1,6 +1,6 @@
 -- A term at which tests cite the laws.
 use Rattle.std.specs.Prelude.{[], ◌∷◌, codes}
-use Rattle.pt_formula.specs.declared.node.Position.{Position}
+use Rattle.pt_base.specs.declared.Position.{Position}
 use Rattle.pt_formula.specs.Formulas.{start}
 use Rattle.pt_syntax.specs.declared.sexpr.Leaf.TheVariants.{Symbol}
 use Rattle.pt_syntax.specs.declared.sexpr.SExpr.{SExpr}

@@ -1,10 +1,10 @@
 -- Which variables are free in what terms stand for, over a whole formula that the nodes come to lie in.
 use Rattle.std.specs.Prelude.{◌≡◌, ◌⊎◌, ℕ, ◌<◌, ◌≤◌, List, ◌++◌, length, Ok}
 use Rattle.std.specs.List.{AllByRecursion}
-use Rattle.pt_sets.specs.Elements.{ContainsByRecursion}
+use Rattle.pt_base.specs.Elements.{ContainsByRecursion}
 use Rattle.pt_formula.specs.declared.node.Node.{Node}
 use Rattle.pt_formula.specs.declared.node.Node.TheVariants as node
-use Rattle.pt_formula.specs.declared.node.Position.{Position}
+use Rattle.pt_base.specs.declared.Position.{Position}
 use Rattle.pt_formula.specs.declared.form.Form.{Form}
 use Rattle.pt_formula.specs.Forms as forms
 use Rattle.pt_formula.specs.Formulas.{node_at, children, node_tree, tree_of, variables_of}

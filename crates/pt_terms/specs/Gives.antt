@@ -1,7 +1,7 @@
 -- A call of elaboration: what it returned and left is what the step gives, unless memory ran out.
 use Rattle.std.specs.Prelude.{◌≡◌, ◌⊎◌, ◌≤◌, ◌++◌, List, length, Result, Ok, Err}
 use Rattle.pt_formula.specs.declared.node.Node.{Node}
-use Rattle.pt_formula.specs.declared.node.Position.{Position}
+use Rattle.pt_base.specs.declared.Position.{Position}
 use Rattle.pt_formula.specs.declared.fault.FormulaFault.{FormulaFault}
 use Rattle.pt_formula.specs.declared.fault.FormulaFault.TheVariants as fault
 use Rattle.pt_formula.specs.declared.form.FormFault.{FormFault}

@@ -1,7 +1,7 @@
 -- What elaboration keeps of a formula: it stays well formed, over variables that have been given out.
 use Rattle.std.specs.Prelude.{ℕ, ◌≡◌, ◌<◌, length, Ok}
 use Rattle.pt_formula.specs.declared.node.Node.TheVariants as node
-use Rattle.pt_formula.specs.declared.node.Position.{Position}
+use Rattle.pt_base.specs.declared.Position.{Position}
 use Rattle.pt_formula.specs.Formulas.{IsFormula}
 use Rattle.pt_syntax.specs.declared.sexpr.SExpr.{SExpr}
 use Rattle.pt_terms.specs.Elaboration.{Work, Elab, make}

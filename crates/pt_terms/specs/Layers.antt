@@ -1,7 +1,7 @@
 -- Parts of terms: a symbol as a term of its own, bindings and quantifiers whose form is right.
 use Rattle.std.specs.Prelude.{Bool, if◌then◌else◌, ℕ, List, [], ◌∷◌, map, Option, Some, None, bytes_eq, codes}
 use Rattle.pt_formula.specs.declared.node.Node.TheVariants as node
-use Rattle.pt_formula.specs.declared.node.Position.{Position}
+use Rattle.pt_base.specs.declared.Position.{Position}
 use Rattle.pt_terms.specs.declared.meaning.Meaning.{Meaning}
 use Rattle.pt_terms.specs.declared.meaning.Sort.{Sort}
 use Rattle.pt_terms.specs.declared.meaning.Bound.{Bound}

@@ -2,7 +2,7 @@
 use Rattle.std.specs.Prelude.{ℕ, Bool, if◌then◌else◌, List, [], ◌∷◌, ◌++◌, Option, Some, None, bytes_eq}
 use Rattle.std.specs.List.{list_any}
 use Rattle.pt_terms.specs.Elaboration.{variable_form, Elab, give, refuse, ◌>>=◌, make}
-use Rattle.pt_formula.specs.declared.node.Position.{Position}
+use Rattle.pt_base.specs.declared.Position.{Position}
 use Rattle.pt_terms.specs.declared.meaning.Meaning.{Meaning}
 use Rattle.pt_terms.specs.declared.meaning.Meaning.TheVariants.{Int, Bool as Truth}
 use Rattle.pt_terms.specs.declared.meaning.Sort.{Sort}

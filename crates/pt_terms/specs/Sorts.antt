@@ -4,7 +4,7 @@ use Rattle.std.specs.List.{AllByRecursion}
 use Rattle.pt_atoms.specs.declared.Kind.TheVariants.{Mod}
 use Rattle.pt_formula.specs.declared.node.Node.{Node}
 use Rattle.pt_formula.specs.declared.node.Node.TheVariants as node
-use Rattle.pt_formula.specs.declared.node.Position.{Position}
+use Rattle.pt_base.specs.declared.Position.{Position}
 use Rattle.pt_formula.specs.Forms.{Monomial}
 use Rattle.pt_formula.specs.Formulas.{node_at}
 use Rattle.pt_formula.specs.Oddness.{AgreeUpToOddnessAt}

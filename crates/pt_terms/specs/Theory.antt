@@ -4,7 +4,7 @@ use Rattle.std.specs.Int.{int_rem_euclid}
 use Rattle.std.specs.List.{list_any, range_with_len}
 use Rattle.pt_formula.specs.declared.node.Node.{Node}
 use Rattle.pt_formula.specs.declared.node.Node.TheVariants as node
-use Rattle.pt_formula.specs.declared.node.Position.{Position}
+use Rattle.pt_base.specs.declared.Position.{Position}
 use Rattle.pt_formula.specs.declared.form.Form.{Form}
 use Rattle.pt_atoms.specs.declared.Kind.{Kind}
 use Rattle.pt_atoms.specs.declared.Kind.TheVariants.{Eq, Le, Mod}

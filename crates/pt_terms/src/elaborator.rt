@@ -2,7 +2,7 @@
 ghost use Rattle.std.specs.Prelude.{◌<◌, ℕ, List, [], ◌∷◌, ◌++◌};
 ghost use Rattle.std.specs.List.{AllByRecursion};
 ghost use Rattle.pt_formula.specs.declared.node.Node.{Node as NodeValue};
-ghost use Rattle.pt_formula.specs.declared.node.Position.{Position as PositionValue};
+ghost use Rattle.pt_base.specs.declared.Position.{Position as PositionValue};
 ghost use Rattle.pt_formula.specs.Truth.{free_variables};
 ghost use Rattle.pt_formula.specs.Formulas.{node_tree, tree_of, IsFormula};
 ghost use Rattle.pt_terms.specs.Sound.{AreBelow};

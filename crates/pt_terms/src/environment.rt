@@ -9,7 +9,7 @@ ghost use Rattle.pt_terms.specs.Gives.{Says};
 ghost use Rattle.pt_terms.specs.Sound.{IsMeaningIn, IsBoundIn, IsEnvIn};
 ghost use Rattle.std.specs.Prelude.{option_map, IfSome};
 ghost use Rattle.std.specs.Prelude.{Some, None};
-ghost use Rattle.pt_formula.specs.declared.node.Position.{Position as PositionValue};
+ghost use Rattle.pt_base.specs.declared.Position.{Position as PositionValue};
 ghost use Rattle.pt_terms.specs.Names.{use_of};
 ghost use Rattle.pt_terms.specs.Symbols.{shown_use};
 ghost use Rattle.pt_terms.specs.Sound.{IsUseIn};

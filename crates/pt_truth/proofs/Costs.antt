@@ -4,7 +4,7 @@ use Rattle.std.specs.Prelude.{ℤ, ◌↔◌}
 use Rattle.std.specs.List.{AllByRecursion}
 use Rattle.std.proofs.lemmas.Bool.{cases_lt}
 use Rattle.std.proofs.lemmas.List.{length-map}
-use Rattle.pt_sets.specs.Elements.{AnyByRecursion, ContainsByRecursion, PairsByRecursion}
+use Rattle.pt_base.specs.Elements.{AnyByRecursion, ContainsByRecursion, PairsByRecursion}
 use Rattle.pt_sets.specs.Words.{Vector, IsLetter, AreLetters}
 use Rattle.pt_sets.specs.Sets.{SameSet}
 use Rattle.pt_sets.specs.Costs.{AreDifferent, CostAbove, CostWithin, CostIs, IsEquivalence, SameResidual, SamePair, SameFamily, RestrictsBy}

@@ -2,7 +2,7 @@
 use Rattle.std.proofs.Common.{◌≡◌, ◌⊎◌, inl, inr, ℕ, zero, suc, ◌+◌, ◌^◌, ◌<◌, ◌≤◌, List, [], ◌∷◌, ◌++◌, length, refl, ap, sym, ◌∙◌, subst, arith, append_assoc}
 use Rattle.std.specs.Prelude.{◌↔◌}
 use Rattle.std.specs.List.{AllByRecursion}
-use Rattle.pt_sets.specs.Elements.{AnyByRecursion, ContainsByRecursion}
+use Rattle.pt_base.specs.Elements.{AnyByRecursion, ContainsByRecursion}
 use Rattle.pt_sets.specs.Words.{Vector, IsLetter, AreLetters, sign_vector, after_digits, value}
 use Rattle.pt_sets.specs.Sets.{SameSet, residual_by}
 use Rattle.pt_sets.specs.Costs.{SameResidual}

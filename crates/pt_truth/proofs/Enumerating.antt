@@ -1,7 +1,7 @@
 -- Lists over an alphabet that are shorter than a number, and searches through finite lists.
 use Rattle.std.proofs.Common.{◌≡◌, ◌⊎◌, inl, inr, ℕ, zero, suc, ◌<◌, ◌≤◌, List, [], ◌∷◌, ◌++◌, length, map, refl, ap, sym, subst, arith}
 use Rattle.std.specs.List.{AllByRecursion, flat_map}
-use Rattle.pt_sets.specs.Elements.{AnyByRecursion, ContainsByRecursion}
+use Rattle.pt_base.specs.Elements.{AnyByRecursion, ContainsByRecursion}
 
 -- a fact that is decided of each element is decided of some element
 pub any_decided : {A : Type 0} (P : A → Type 0) (xs : List A) → AllByRecursion (λ x. P x ⊎ (¬ P x)) xs → AnyByRecursion P xs ⊎ (¬ AnyByRecursion P xs)

@@ -6,7 +6,7 @@ use Rattle.std.proofs.lemmas.Bool.{cases_eq}
 use Rattle.std.proofs.lemmas.List.{map-append}
 use Rattle.std.proofs.lemmas.Nat.{div-mul-add, mod-mul-add}
 use Rattle.std.proofs.lemmas.Bool.Decides.{nat_tests}
-use Rattle.pt_sets.specs.Elements.{AnyByRecursion, ContainsByRecursion}
+use Rattle.pt_base.specs.Elements.{AnyByRecursion, ContainsByRecursion}
 use Rattle.pt_sets.specs.Words.{IsLetter, AreLetters}
 use Rattle.pt_sets.specs.Costs.{RestrictsBy}
 use Rattle.pt_sets.proofs.Languages.{AreLetters-append}

@@ -4,7 +4,7 @@ use Rattle.std.specs.Prelude.{ℤ, pos, ◌+ℤ◌, ◌*ℤ◌, ⊤}
 use Rattle.std.specs.List.{AllByRecursion}
 use Rattle.std.proofs.lemmas.Int.{ints}
 use Rattle.std.proofs.lemmas.Bool.{cases_lt}
-use Rattle.pt_sets.specs.Elements.{ContainsByRecursion, PairsByRecursion}
+use Rattle.pt_base.specs.Elements.{ContainsByRecursion, PairsByRecursion}
 use Rattle.pt_sets.specs.Words.{Vector, AreLetters, doubled_plus, value}
 use Rattle.pt_sets.specs.Shortlex.{IsShortestWord, ComesBefore, IsLeastMember, IsFirstMembers}
 use Rattle.pt_sets.proofs.Ordering.{before-irreflexive, before-transitive, before-total}

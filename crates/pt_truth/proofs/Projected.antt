@@ -6,7 +6,7 @@ use Rattle.std.specs.List.{AllByRecursion}
 use Rattle.std.proofs.lemmas.Int.{ints}
 use Rattle.std.proofs.lemmas.Bool.{cases_eq}
 use Rattle.std.proofs.lemmas.Nat.{div-mul-add, mod-mul-add}
-use Rattle.pt_sets.specs.Elements.{AnyByRecursion, ContainsByRecursion}
+use Rattle.pt_base.specs.Elements.{AnyByRecursion, ContainsByRecursion}
 use Rattle.pt_sets.specs.Words.{Vector, IsLetter, AreLetters, doubled_plus, sign_vector, after_digits, value}
 use Rattle.pt_sets.specs.Languages.{Encodes}
 use Rattle.pt_sets.specs.Sets.{SameSet, residual_by}

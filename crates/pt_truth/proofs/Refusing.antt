@@ -3,9 +3,9 @@ use Rattle.std.proofs.Common.{◌≡◌, ◌⊎◌, inl, inr, ℕ, zero, suc, �
 use Rattle.std.specs.Prelude.{slice_get, EachIndex}
 use Rattle.std.specs.List.{AllByRecursion}
 use Rattle.std.proofs.lemmas.Bool.{cases_eq, cases_lt}
-use Rattle.pt_sets.specs.Elements.{AnyByRecursion, ContainsByRecursion}
+use Rattle.pt_base.specs.Elements.{AnyByRecursion, ContainsByRecursion}
 use Rattle.pt_formula.specs.declared.node.Node.{Node}
-use Rattle.pt_formula.specs.declared.node.Position.{Position}
+use Rattle.pt_base.specs.declared.Position.{Position}
 use Rattle.pt_formula.specs.Formulas.{IsFormula, node_at, tree_of, children}
 use Rattle.pt_formula.specs.Truth.{Tree}
 use Rattle.pt_formula.specs.Costs.{TreeCostAbove, TreeCostWithin, IsPath, Reaches, IsBelow, IsReached, IsCostly, IsRefused, NoneRefused}

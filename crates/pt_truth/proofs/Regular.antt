@@ -3,7 +3,7 @@ use Rattle.std.proofs.Common.{◌≡◌, ◌≢◌, ◌⊎◌, inl, inr, ℕ, ze
 use Rattle.std.specs.List.{AllByRecursion}
 use Rattle.std.proofs.lemmas.Bool.{cases_eq, cases_lt}
 use Rattle.std.proofs.lemmas.List.{take-append-drop, length-take-le}
-use Rattle.pt_sets.proofs.Pigeonhole.{injective-le}
+use Rattle.pt_base.proofs.Pigeonhole.{injective-le}
 use Rattle.pt_sets.specs.Words.{Vector, IsLetter, AreLetters, doubled_plus, after_digits}
 use Rattle.pt_sets.specs.Sets.{SameSet, residual_by}
 use Rattle.pt_sets.specs.Costs.{SameResidual}

@@ -11,7 +11,7 @@ use Rattle.pt_atoms.specs.Sums.{Congruent}
 use Rattle.pt_formula.specs.Forms.{Monomial}
 use Rattle.pt_formula.specs.Values.{terms_value}
 use Rattle.pt_formula.specs.Truth.{Tree, True, False, Atom, Not, And, Or, Iff, Xor, Exists, Holds, updated, valuation, free_variables}
-use Rattle.pt_sets.specs.Elements.{ContainsByRecursion}
+use Rattle.pt_base.specs.Elements.{ContainsByRecursion}
 use Rattle.pt_sets.specs.Words.{Vector, doubled_plus}
 use Rattle.pt_truth.proofs.Integers.{mul_add}
 use Rattle.pt_truth.proofs.Connectives.{IsRegular, not_regular, both_regular, constant_regular, decided_not}

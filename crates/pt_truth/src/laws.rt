@@ -12,7 +12,7 @@ ghost use Rattle.pt_sets.specs.Costs.{CostAbove, CostWithin, CostIs, SamePair, S
 ghost use Rattle.pt_sets.specs.Shortlex.{IsLeastMember, IsFirstMembers};
 ghost use Rattle.pt_formula.specs.Truth.{Tree, Exists, Holds, Solutions, Widened, free_variables, updated};
 ghost use Rattle.pt_formula.specs.declared.node.Node.{Node as NodeValue};
-ghost use Rattle.pt_formula.specs.declared.node.Position.{Position as PositionValue};
+ghost use Rattle.pt_base.specs.declared.Position.{Position as PositionValue};
 ghost use Rattle.pt_formula.specs.Formulas.{IsFormula};
 ghost use Rattle.pt_formula.specs.Costs.{SameValue, TreeCostAbove, TreeCostWithin, IsRefused, NoneRefused};
 

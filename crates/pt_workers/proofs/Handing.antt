@@ -2,7 +2,7 @@
 use Rattle.std.proofs.Common.{◌≡◌, ℕ, zero, suc, ◌<◌, List, [], ◌∷◌, ◌++◌, length, refl, ap, sym, subst, ◌∙◌, arith}
 use Rattle.std.specs.Prelude.{All, slice_index_or}
 use Rattle.std.specs.Global.{Vec}
-use Rattle.pt_sets.specs.Lists.{Lists}
+use Rattle.pt_known.specs.Lists.{Lists}
 use Rattle.pt_workers.specs.declared.hands.Hand.{Hand}
 use Rattle.pt_workers.specs.declared.hands.Report.{Report}
 use Rattle.pt_workers.specs.Works.{all_of}

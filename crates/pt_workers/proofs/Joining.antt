@@ -4,7 +4,7 @@ use Rattle.std.specs.Prelude.{sum_by}
 use Rattle.std.specs.Global.{Vec}
 use Rattle.std.proofs.lemmas.List.Sums.{sum_by-append}
 use Rattle.std.proofs.lemmas.List.Concat.{flat_map-append}
-use Rattle.pt_sets.specs.Lists.{Lists, Extends, IsWithin}
+use Rattle.pt_known.specs.Lists.{Lists, Extends, IsWithin}
 use Rattle.pt_store.specs.declared.fault.StoreFault.{StoreFault}
 use Rattle.pt_workers.specs.declared.hands.Report.{Report}
 use Rattle.pt_store.specs.Interning.{no_memory}

@@ -3,7 +3,7 @@ use Rattle.std.proofs.Common.{◌≡◌, ◌+◌, ◌<◌, ◌≤◌, ◌∙◌,
 use Rattle.std.specs.Prelude.{slice_index, sum_by}
 use Rattle.std.proofs.lemmas.List.Sums.{sum_by-take-le}
 use Rattle.std.proofs.lemmas.List.Elements.{Contains-append_left, Contains-append_right}
-use Rattle.pt_sets.specs.Lists.{Lists, list_of, Extends, IsWithin}
+use Rattle.pt_known.specs.Lists.{Lists, list_of, Extends, IsWithin}
 use Rattle.pt_store.specs.declared.fault.StoreFault.{StoreFault}
 use Rattle.pt_store.specs.declared.fault.StoreFault.TheVariants.{Full, NoMemory}
 use Rattle.pt_workers.specs.Works.{RefusesOnly, Some_of}

@@ -2,7 +2,7 @@
 use Rattle.std.specs.Prelude.{◌≡◌, ℕ, ◌<◌, ◌≤◌, List, All, length, slice_index_or, sum_by, IfOk, IfErr}
 use Rattle.std.specs.List.{flat_map}
 use Rattle.std.specs.Global.{Vec}
-use Rattle.pt_sets.specs.Lists.{Lists}
+use Rattle.pt_known.specs.Lists.{Lists}
 use Rattle.pt_workers.specs.declared.hands.Hand.{Hand}
 use Rattle.pt_workers.specs.declared.hands.Report.{Report}
 use Rattle.pt_workers.specs.Works.{AreTold, RefusesOnly, Some_of}

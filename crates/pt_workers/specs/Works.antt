@@ -3,7 +3,7 @@ use Rattle.std.specs.Prelude.{◌≡◌, ℕ, ◌+◌, ◌%◌, List, [], ◌∷
 use Rattle.std.specs.List.{flat_map}
 use Rattle.std.specs.List.Sorted.{IsPermutation}
 use Rattle.std.specs.Global.{Vec}
-use Rattle.pt_sets.specs.Lists.{Lists, list_of}
+use Rattle.pt_known.specs.Lists.{Lists, list_of}
 use Rattle.pt_store.specs.declared.fault.StoreFault.{StoreFault}
 use Rattle.pt_store.specs.declared.fault.StoreFault.TheVariants.{Full, NoMemory}
 

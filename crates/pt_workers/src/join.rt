@@ -1,6 +1,6 @@
 // How the reports of workers become one.
 ghost use Rattle.std.specs.Prelude.{◌≡◌, ◌⊎◌, ◌+◌, ◌≤◌, ◌++◌, All, Ok, Err, sum_by, IfOk, IfErr};
-ghost use Rattle.pt_sets.specs.Lists.{Extends, IsWithin};
+ghost use Rattle.pt_known.specs.Lists.{Extends, IsWithin};
 ghost use Rattle.pt_store.specs.Interning.{no_memory};
 ghost use Rattle.pt_workers.specs.Works.{AreTold, RefusesOnly, Some_of};
 ghost use Rattle.pt_workers.specs.Reports.{IsReportOf, reported};

@@ -1,6 +1,6 @@
 // Work on one thread and on several.
 ghost use Rattle.std.specs.Prelude.{◌+◌, ◌<◌, ◌≤◌, All, sum_by, IfOk, IfErr};
-ghost use Rattle.pt_sets.specs.Lists.{Extends};
+ghost use Rattle.pt_known.specs.Lists.{Extends};
 ghost use Rattle.pt_workers.specs.Works.{AreTold, RefusesOnly, Some_of};
 
 use crate::deal::deal;

@@ -1,7 +1,7 @@
 // Work on one thread and on several: work that needs no store, and work that interns.
 ghost use Rattle.std.specs.Prelude.{◌≡◌, ◌*◌, ◌<◌, slice_get, IfSome, None, Some};
 ghost use Rattle.std.specs.Arc.{arc_value};
-ghost use Rattle.pt_sets.specs.Lists.{Lists, find, Extends, IsWithin};
+ghost use Rattle.pt_known.specs.Lists.{Lists, find, Extends, IsWithin};
 
 use crate::*;
 use pt_code::{Code, Place, read_code};

@@ -1,7 +1,7 @@
 // Work by number.
 ghost use Rattle.std.specs.Prelude.{ℕ, ◌+◌, ◌≤◌, IfOk, IfErr};
 ghost use Rattle.std.specs.Thread.{IsSync};
-ghost use Rattle.pt_sets.specs.Lists.{Lists, Home, Extends};
+ghost use Rattle.pt_known.specs.Lists.{Lists, Home, Extends};
 ghost use Rattle.pt_workers.specs.Works.{RefusesOnly};
 
 use pt_store::{Codes, Interner, StoreFault};

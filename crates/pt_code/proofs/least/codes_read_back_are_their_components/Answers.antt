@@ -1,4 +1,4 @@
-use Rattle.pt_sets.proofs.ReadBack.{HasShape-code_from, read-back, number_of, state_at}
+use Rattle.pt_known.proofs.ReadBack.{HasShape-code_from, read-back, number_of, state_at}
 use Rattle.pt_code.proofs.least.codes_read_back_are_their_components.Goals as goal
 
 pub returns : goal.returns

@@ -1,5 +1,5 @@
 use Rattle.std.proofs.Common.{get_or}
-use Rattle.pt_sets.specs.Components.{states_in_order}
+use Rattle.pt_known.specs.Components.{states_in_order}
 use Rattle.pt_code.specs.Component.{component}
 use Rattle.pt_code.proofs.Deciding.{rows-same, at-order}
 use Rattle.pt_code.proofs.least.compare_states.Goals as goal

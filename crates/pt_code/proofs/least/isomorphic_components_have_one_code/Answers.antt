@@ -1,4 +1,4 @@
-use Rattle.pt_sets.proofs.Isomorphic.{IsLeastCode-isomorphic, IsLeastCode-unique}
+use Rattle.pt_known.proofs.Isomorphic.{IsLeastCode-isomorphic, IsLeastCode-unique}
 use Rattle.pt_code.proofs.least.isomorphic_components_have_one_code.Goals as goal
 
 pub returns : goal.returns

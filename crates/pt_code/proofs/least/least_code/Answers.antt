@@ -1,6 +1,6 @@
 use Rattle.std.proofs.Common.{sym, subst}
-use Rattle.pt_sets.specs.Components.{HasShape}
-use Rattle.pt_sets.proofs.ReadBack.{HasShape-code_from}
+use Rattle.pt_known.specs.Components.{HasShape}
+use Rattle.pt_known.proofs.ReadBack.{HasShape-code_from}
 use Rattle.pt_code.specs.Component.{component}
 use Rattle.pt_code.proofs.least.least_code.Goals as goal
 

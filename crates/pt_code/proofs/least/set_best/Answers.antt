@@ -1,5 +1,5 @@
 use Rattle.std.proofs.Common.{ℕ, List, Bool, false, length, sym, subst, ap, ◌∙◌, arith, get_or}
-use Rattle.pt_sets.proofs.SearchOrder.{order-length}
+use Rattle.pt_known.proofs.SearchOrder.{order-length}
 use Rattle.pt_code.specs.Component.{component}
 use Rattle.pt_code.specs.declared.bounds.Bound.{Bound}
 use Rattle.pt_code.specs.Limiting.{AreLimits}

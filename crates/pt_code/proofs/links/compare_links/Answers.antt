@@ -3,9 +3,9 @@ use Rattle.std.specs.Prelude.{All}
 use Rattle.std.specs.Ordering.{nat_cmp}
 use Rattle.std.specs.Cmp.Lexicographic.{slice_cmp}
 use Rattle.std.proofs.lemmas.List.{take_all}
-use Rattle.pt_sets.specs.declared.Exit.{Exit}
-use Rattle.pt_sets.specs.Components.{StaysWithin, states_in_order, exits_in_order}
-use Rattle.pt_sets.proofs.SearchOrder.{order-length}
+use Rattle.pt_known.specs.declared.Exit.{Exit}
+use Rattle.pt_known.specs.Components.{StaysWithin, states_in_order, exits_in_order}
+use Rattle.pt_known.proofs.SearchOrder.{order-length}
 use Rattle.pt_code.specs.Component.{component}
 use Rattle.pt_code.specs.Parts.{edge_row, exits_part, links_part}
 use Rattle.pt_code.proofs.Answering.{if_ok_by}

@@ -1,5 +1,5 @@
 use Rattle.std.proofs.Common.{◌≡◌, ◌<◌, ℕ, get_or, vec_len}
-use Rattle.pt_sets.specs.Components.{states_in_order}
+use Rattle.pt_known.specs.Components.{states_in_order}
 use Rattle.pt_code.specs.Component.{component}
 use Rattle.pt_code.specs.Parts.{edge_row}
 use Rattle.pt_code.proofs.Beside.{IsSide}

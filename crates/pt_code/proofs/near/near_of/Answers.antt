@@ -2,8 +2,8 @@ use Rattle.std.proofs.Common.{rules, ◌≡◌, ◌≤◌, [], ◌∷◌, ◌++�
 use Rattle.std.specs.List.{flat_map, range_with_len}
 use Rattle.std.proofs.lemmas.List.{take_all}
 use Rattle.std.proofs.lemmas.List.FromFn.{length-range_with_len}
-use Rattle.pt_sets.specs.declared.Edge.{Edge}
-use Rattle.pt_sets.specs.Components.{near_states, edges_from}
+use Rattle.pt_known.specs.declared.Edge.{Edge}
+use Rattle.pt_known.specs.Components.{near_states, edges_from}
 use Rattle.pt_code.specs.Component.{component}
 use Rattle.pt_code.specs.Searching.{successors, visit_all}
 use Rattle.pt_code.proofs.Nearby.{targets-more, starts-more}

@@ -1,6 +1,6 @@
 use Rattle.std.proofs.Common.{◌<◌, ◌≤◌, ◌∷◌, take, length, ap, ◌∙◌, arith}
 use Rattle.std.specs.List.{flat_map}
-use Rattle.pt_sets.specs.Components.{near_states, edges_from}
+use Rattle.pt_known.specs.Components.{near_states, edges_from}
 use Rattle.pt_code.specs.Component.{component}
 use Rattle.pt_code.specs.Searching.{visit_all}
 use Rattle.pt_code.proofs.Queue.{Met-end, order-short, Met-within}

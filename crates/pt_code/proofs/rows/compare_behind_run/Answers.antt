@@ -2,8 +2,8 @@ use Rattle.std.proofs.Common.{rules, ◌≡◌, ◌<◌, ◌+◌, ◌≤◌, ◌
 use Rattle.std.specs.Prelude.{All}
 use Rattle.std.proofs.lemmas.List.{take-append-le}
 use Rattle.std.proofs.Math.ListN.{get_or-append}
-use Rattle.pt_sets.specs.Components.{near_states, edges_from}
-use Rattle.pt_sets.proofs.SearchOrder.{order-length}
+use Rattle.pt_known.specs.Components.{near_states, edges_from}
+use Rattle.pt_known.proofs.SearchOrder.{order-length}
 use Rattle.pt_code.proofs.Deciding.{rows-decided, rows-same}
 use Rattle.pt_code.specs.Component.{component}
 use Rattle.pt_code.specs.Parts.{row_of}

@@ -1,8 +1,8 @@
 use Rattle.std.proofs.Common.{◌≡◌, ◌≤◌, ◌<◌, ◌∷◌, ◌++◌, ℕ, List, take, get_or, vec_len, length}
 use Rattle.std.specs.Prelude.{◌==◌}
 use Rattle.std.specs.List.{flat_map}
-use Rattle.pt_sets.specs.Elements.{first_places}
-use Rattle.pt_sets.specs.Components.{near_states, edges_from, states_in_order}
+use Rattle.pt_base.specs.Elements.{first_places}
+use Rattle.pt_known.specs.Components.{near_states, edges_from, states_in_order}
 use Rattle.pt_code.specs.Component.{component}
 use Rattle.pt_code.specs.Parts.{row_of}
 use Rattle.pt_code.specs.Searching.{IsNumbered}

@@ -1,7 +1,7 @@
 use Rattle.std.proofs.Common.{Bool, List, map, ap, ◌∙◌}
 use Rattle.std.specs.Ordering.{nat_cmp}
 use Rattle.std.specs.Cmp.Lexicographic.{slice_cmp}
-use Rattle.pt_sets.specs.Components.{bit}
+use Rattle.pt_known.specs.Components.{bit}
 use Rattle.pt_code.specs.Component.{component}
 use Rattle.pt_code.specs.Parts.{row_of}
 use Rattle.pt_code.proofs.Bits.{bits-cmp}

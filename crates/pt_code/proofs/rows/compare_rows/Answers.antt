@@ -1,6 +1,6 @@
 use Rattle.std.proofs.Common.{vec_len, ◌≡◌, ◌<◌, ◌≤◌, ℕ, List, length, length-append, refl, sym, ap, ◌∙◌, subst, arith, get_or}
 use Rattle.std.proofs.lemmas.Grind.{get_or_default_zero}
-use Rattle.pt_sets.proofs.SearchOrder.{order-length}
+use Rattle.pt_known.proofs.SearchOrder.{order-length}
 use Rattle.pt_code.specs.Component.{component}
 use Rattle.pt_code.specs.Limiting.{IsLate, IsSoon}
 use Rattle.pt_code.specs.declared.order.Order.{Order}

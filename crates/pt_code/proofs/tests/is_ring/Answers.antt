@@ -1,6 +1,6 @@
 use Rattle.std.proofs.Common.{rules, ◌≡◌, ℕ, ◌+◌, ◌*◌, ◌^◌, ◌<◌, List, arith, ap, sym, ◌∙◌, get_or}
-use Rattle.pt_sets.specs.declared.Edge.{Edge}
-use Rattle.pt_sets.specs.declared.Edge.TheVariants.{Near}
+use Rattle.pt_known.specs.declared.Edge.{Edge}
+use Rattle.pt_known.specs.declared.Edge.TheVariants.{Near}
 use Rattle.pt_code.specs.Component.{component}
 use Rattle.pt_code.proofs.Ring.{ring-connected}
 use Rattle.pt_code.proofs.tests.is_ring.Goals as goal

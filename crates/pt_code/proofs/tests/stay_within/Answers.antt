@@ -1,7 +1,7 @@
 use Rattle.std.proofs.Common.{◌<◌, subst, arith}
 use Rattle.std.proofs.lemmas.List.{get_or_default}
-use Rattle.pt_sets.specs.declared.Edge.TheVariants.{Near}
-use Rattle.pt_sets.specs.Components.{StaysWithin}
+use Rattle.pt_known.specs.declared.Edge.TheVariants.{Near}
+use Rattle.pt_known.specs.Components.{StaysWithin}
 use Rattle.pt_code.proofs.tests.stay_within.Goals as goal
 
 pub returns : goal.returns

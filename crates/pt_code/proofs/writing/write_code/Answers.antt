@@ -1,8 +1,8 @@
 use Rattle.std.proofs.Common.{◌<◌, ◌++◌, ℕ, List, length, ap, sym, ◌∙◌, subst, arith}
 use Rattle.std.specs.Prelude.{All}
-use Rattle.pt_sets.specs.Components.{states_in_order}
-use Rattle.pt_sets.proofs.SearchOrder.{order-length}
-use Rattle.pt_sets.proofs.Isomorphic.{search_order-within}
+use Rattle.pt_known.specs.Components.{states_in_order}
+use Rattle.pt_known.proofs.SearchOrder.{order-length}
+use Rattle.pt_known.proofs.Isomorphic.{search_order-within}
 use Rattle.pt_code.specs.Component.{component}
 use Rattle.pt_code.specs.Parts.{outputs_part}
 use Rattle.pt_code.proofs.Nearby.{All-by}

@@ -2,10 +2,10 @@ use Rattle.std.proofs.Common.{◌≡◌, ◌+◌, ◌<◌, ◌∷◌, [], ◌++�
 use Rattle.std.proofs.lemmas.List.{take_all}
 use Rattle.std.specs.List.{position_or_len}
 use Rattle.indexmap.specs.IndexSet.{insert_key, insert_all}
-use Rattle.pt_sets.specs.declared.Exit.{Exit}
-use Rattle.pt_sets.specs.declared.Edge.{Edge}
-use Rattle.pt_sets.specs.declared.Edge.TheVariants.{Near}
-use Rattle.pt_sets.specs.Components.{exit_eq}
+use Rattle.pt_known.specs.declared.Exit.{Exit}
+use Rattle.pt_known.specs.declared.Edge.{Edge}
+use Rattle.pt_known.specs.declared.Edge.TheVariants.{Near}
+use Rattle.pt_known.specs.Components.{exit_eq}
 use Rattle.pt_code.specs.Parts.{number_in}
 use Rattle.pt_code.proofs.Exits.{near-found, near-written, far-found, far-written, insert-few, inserted-as, placed-as, compares-exits}
 use Rattle.pt_code.proofs.writing.write_edges.Goals as goal

@@ -1,7 +1,7 @@
 use Rattle.std.proofs.Common.{◌≡◌, ◌+◌, ◌≤◌, ◌++◌, List, map, take, length}
 use Rattle.indexmap.specs.IndexSet.{insert_all}
-use Rattle.pt_sets.specs.declared.Exit.{Exit}
-use Rattle.pt_sets.specs.Components.{far_exits, exit_eq}
+use Rattle.pt_known.specs.declared.Exit.{Exit}
+use Rattle.pt_known.specs.Components.{far_exits, exit_eq}
 use Rattle.pt_code.specs.Parts.{number_in}
 use Rattle.pt_code.proofs.writing.write_edges.Given as goal
 

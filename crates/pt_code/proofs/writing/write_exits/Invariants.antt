@@ -1,6 +1,6 @@
 use Rattle.std.proofs.Common.{◌≡◌, [], ◌∷◌, ◌++◌, take, length}
 use Rattle.std.specs.List.{flat_map}
-use Rattle.pt_sets.specs.Components.{exit_numbers}
+use Rattle.pt_known.specs.Components.{exit_numbers}
 use Rattle.pt_code.proofs.writing.write_exits.Given as goal
 
 abbrev pub invariant-loop-exit : goal.invariant-loop-exit

@@ -1,8 +1,8 @@
 use Rattle.std.proofs.Common.{◌≡◌, ℕ, ◌+◌, ◌*◌, ◌^◌, ◌<◌, ◌≤◌, [], ◌++◌, List, map, take, length, ap, ◌∙◌, arith, get_or}
 use Rattle.std.proofs.lemmas.List.{append-nil, take_all}
-use Rattle.pt_sets.specs.declared.Exit.{Exit}
-use Rattle.pt_sets.specs.declared.Edge.{Edge}
-use Rattle.pt_sets.specs.Components.{edges_from, exits_in_order, far_exits, exit_eq}
+use Rattle.pt_known.specs.declared.Exit.{Exit}
+use Rattle.pt_known.specs.declared.Edge.{Edge}
+use Rattle.pt_known.specs.Components.{edges_from, exits_in_order, far_exits, exit_eq}
 use Rattle.indexmap.specs.IndexSet.{insert_all}
 use Rattle.pt_code.specs.Component.{component}
 use Rattle.pt_code.specs.Parts.{number_in, edges_part}

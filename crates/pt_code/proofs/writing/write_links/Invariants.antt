@@ -1,6 +1,6 @@
 use Rattle.std.proofs.Common.{◌≡◌, ◌*◌, ◌^◌, ◌≤◌, ◌++◌, List, take, length}
-use Rattle.pt_sets.specs.declared.Exit.{Exit}
-use Rattle.pt_sets.specs.Components.{exits_in_order}
+use Rattle.pt_known.specs.declared.Exit.{Exit}
+use Rattle.pt_known.specs.Components.{exits_in_order}
 use Rattle.pt_code.specs.Component.{component}
 use Rattle.pt_code.specs.Parts.{edges_part}
 use Rattle.pt_code.proofs.writing.write_links.Given as goal

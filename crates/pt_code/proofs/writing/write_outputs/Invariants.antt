@@ -1,5 +1,5 @@
 use Rattle.std.proofs.Common.{◌≡◌, ◌++◌, map, take}
-use Rattle.pt_sets.specs.Components.{bit}
+use Rattle.pt_known.specs.Components.{bit}
 use Rattle.pt_code.proofs.writing.write_outputs.Given as goal
 
 abbrev pub invariant-loop-output : goal.invariant-loop-output

@@ -1,6 +1,6 @@
 use Rattle.std.proofs.Common.{◌≡◌, ◌≢◌, ◌≤◌, ℕ, List, sym, subst}
 use Rattle.std.specs.Global.{Vec}
-use Rattle.pt_sets.specs.Elements.{ContainsByRecursion}
+use Rattle.pt_base.specs.Elements.{ContainsByRecursion}
 use Rattle.pt_formula.specs.Costs.{IsReached}
 use Rattle.pt_handles.specs.declared.handle.Handle.{Handle}
 use Rattle.pt_eval.specs.declared.fault.EvalFault.{EvalFault}

@@ -1,8 +1,8 @@
 use Rattle.std.proofs.Common.{◌≡◌, ◌+◌, ◌*◌, ◌≤◌, ℕ, List, length, map, take, sym, subst, ◌∙◌, arith}
 use Rattle.std.specs.Prelude.{◌↔◌}
 use Rattle.std.proofs.lemmas.List.{length-map}
-use Rattle.pt_sets.specs.Elements.{ContainsByRecursion}
-use Rattle.pt_sets.proofs.ListLaws.{Extends-trans}
+use Rattle.pt_base.specs.Elements.{ContainsByRecursion}
+use Rattle.pt_known.proofs.ListLaws.{Extends-trans}
 use Rattle.pt_eval.specs.declared.outcome.Outcome.{Outcome}
 use Rattle.pt_eval.specs.Levels.{row_of, total}
 use Rattle.pt_eval.specs.Outcomes.{AreOutcomes, AreResults, AreWritten, outcome_in}

@@ -1,7 +1,7 @@
 use Rattle.std.proofs.Common.{◌+◌, ◌*◌, ◌<◌, ◌≤◌, ℕ, take}
 use Rattle.std.specs.Prelude.{◌↔◌}
-use Rattle.pt_sets.specs.Elements.{ContainsByRecursion}
-use Rattle.pt_sets.specs.Lists.{Extends}
+use Rattle.pt_base.specs.Elements.{ContainsByRecursion}
+use Rattle.pt_known.specs.Lists.{Extends}
 use Rattle.pt_eval.specs.Levels.{row_of, total}
 use Rattle.pt_eval.specs.Outcomes.{AreOutcomes, IsSettled, outcome_in}
 use Rattle.pt_eval.proofs.evaluation.evaluate_rows.Given as goal

@@ -2,7 +2,7 @@ use Rattle.std.proofs.Common.{◌≢◌, inl, inr, ℕ, List, take, sym, subst, 
 use Rattle.std.specs.Prelude.{slice_index}
 use Rattle.std.proofs.lemmas.Bool.{cases_lt}
 use Rattle.std.proofs.lemmas.List.{take_all}
-use Rattle.pt_sets.specs.Elements.{ContainsByRecursion}
+use Rattle.pt_base.specs.Elements.{ContainsByRecursion}
 use Rattle.pt_eval.specs.Outcomes.{outcome_in, costly}
 use Rattle.pt_eval.proofs.ReachLaws.{contains-at, contains-last, take-next}
 use Rattle.pt_eval.proofs.LevelLaws.{less-front}

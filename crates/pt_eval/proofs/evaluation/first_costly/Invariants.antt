@@ -1,5 +1,5 @@
 use Rattle.std.proofs.Common.{◌≢◌, ℕ, take}
-use Rattle.pt_sets.specs.Elements.{ContainsByRecursion}
+use Rattle.pt_base.specs.Elements.{ContainsByRecursion}
 use Rattle.pt_eval.specs.Outcomes.{outcome_in, costly}
 use Rattle.pt_eval.proofs.evaluation.first_costly.Given as goal
 

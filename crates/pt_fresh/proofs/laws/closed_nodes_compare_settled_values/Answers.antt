@@ -2,7 +2,7 @@ use Rattle.std.proofs.Common.{◌↔◌, ℕ, List, ◌≡◌, subst, sym, ap}
 use Rattle.std.specs.Prelude.{ℤ, Ok}
 use Rattle.pt_formula.specs.Formulas.{tree_of}
 use Rattle.pt_formula.specs.Truth.{Holds}
-use Rattle.pt_formula.specs.declared.node.Position.{Position}
+use Rattle.pt_base.specs.declared.Position.{Position}
 use Rattle.pt_formula.specs.Formulas.{IsFormula}
 use Rattle.pt_fresh.specs.Making.{NodeList}
 use Rattle.pt_fresh.specs.Pairs.{compare, divisible}

@@ -3,10 +3,10 @@ use Rattle.std.proofs.lemmas.List.FromFn.{length-map-range_with_len}
 use Rattle.std.specs.Arc.{arc_value}
 use Rattle.std.specs.Prelude.{◌==◌}
 use Rattle.std.specs.List.{position_or_len}
-use Rattle.pt_sets.specs.declared.Edge.{Edge}
-use Rattle.pt_sets.specs.declared.Edge.TheVariants.{Near}
+use Rattle.pt_known.specs.declared.Edge.{Edge}
+use Rattle.pt_known.specs.declared.Edge.TheVariants.{Near}
 use Rattle.pt_sets.specs.Automata.{next_of}
-use Rattle.pt_sets.specs.Components.{states_in_order}
+use Rattle.pt_known.specs.Components.{states_in_order}
 use Rattle.pt_code.specs.Coding.{IsCoding}
 use Rattle.pt_code.specs.Component.{component}
 use Rattle.pt_handles.specs.Adopting.{IsPart, IsPieceOf}

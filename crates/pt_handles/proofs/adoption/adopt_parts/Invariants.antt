@@ -1,5 +1,5 @@
 use Rattle.std.proofs.Common.{◌+◌, ◌≤◌}
-use Rattle.pt_sets.specs.Lists.{Extends}
+use Rattle.pt_known.specs.Lists.{Extends}
 use Rattle.pt_scc.specs.Components.{lists_of}
 use Rattle.pt_handles.specs.Adopting.{ArePlaced}
 use Rattle.pt_handles.proofs.adoption.adopt_parts.Given as goal

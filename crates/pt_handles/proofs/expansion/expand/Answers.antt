@@ -1,6 +1,6 @@
 use Rattle.std.proofs.Common.{◌≡◌, ℕ, ◌+◌, ◌<◌, ◌≤◌, List, ◌++◌, ap, sym, ◌∙◌, subst, arith, rules, get_or, length, take}
 use Rattle.std.specs.HashMap.{get}
-use Rattle.pt_sets.specs.declared.Place.{Place}
+use Rattle.pt_known.specs.declared.Place.{Place}
 use Rattle.std.proofs.lemmas.List.{length-append}
 use Rattle.pt_sets.specs.Automata.{Automaton}
 use Rattle.pt_handles.specs.Expansion.{Expands}

@@ -1,7 +1,7 @@
 use Rattle.std.proofs.Common.{◌≡◌, List, ◌++◌, ◌∷◌, [], None, ap, sym, ◌∙◌, subst, rules}
 use Rattle.std.specs.HashMap.{get}
-use Rattle.pt_sets.specs.declared.Place.{Place}
-use Rattle.pt_sets.specs.Components.{states_of}
+use Rattle.pt_known.specs.declared.Place.{Place}
+use Rattle.pt_known.specs.Components.{states_of}
 use Rattle.pt_handles.specs.Rows.{IsRow, same_place, size_of}
 use Rattle.pt_handles.proofs.Rowing.{row-first}
 use Rattle.pt_handles.proofs.expansion.first_row.Goals as goal

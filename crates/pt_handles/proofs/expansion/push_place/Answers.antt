@@ -1,8 +1,8 @@
 use Rattle.std.proofs.Common.{◌≡◌, ℕ, ◌+◌, ◌^◌, ◌<◌, List, ◌++◌, refl, ap, sym, ◌∙◌, subst, arith}
 use Rattle.std.specs.HashMap.{get}
-use Rattle.pt_sets.specs.declared.Place.{Place}
-use Rattle.pt_sets.specs.declared.Exit.{Exit}
-use Rattle.pt_sets.specs.Components.{states_of}
+use Rattle.pt_known.specs.declared.Place.{Place}
+use Rattle.pt_known.specs.declared.Exit.{Exit}
+use Rattle.pt_known.specs.Components.{states_of}
 use Rattle.pt_handles.specs.Rows.{IsRow, IsNumbered, AddsState, IsLaid, same_place, size_of}
 use Rattle.pt_handles.proofs.InRow.{numbered-more}
 use Rattle.pt_handles.proofs.Rowing.{more-none, more-more, laid-step}

@@ -1,6 +1,6 @@
 use Rattle.std.proofs.Common.{◌≡◌, ◌+◌, List, ◌++◌}
 use Rattle.std.specs.HashMap.{get}
-use Rattle.pt_sets.specs.declared.Place.{Place}
+use Rattle.pt_known.specs.declared.Place.{Place}
 use Rattle.pt_handles.specs.Rows.{IsRow, IsLaid, same_place}
 use Rattle.pt_handles.proofs.expansion.push_place.Given as goal
 

@@ -2,8 +2,8 @@ use Rattle.std.proofs.Common.{◌≡◌, ◌+◌, ◌<◌, ◌≤◌, List, None
 use Rattle.std.proofs.lemmas.List.Elements.{All-push}
 use Rattle.std.specs.HashMap.{get}
 use Rattle.std.specs.List.{All}
-use Rattle.pt_sets.specs.declared.Place.{Place}
-use Rattle.pt_sets.specs.Components.{states_of}
+use Rattle.pt_known.specs.declared.Place.{Place}
+use Rattle.pt_known.specs.Components.{states_of}
 use Rattle.pt_handles.specs.Rows.{IsRow, IsNumbered, same_place, size_of}
 use Rattle.pt_handles.specs.Knowing.{HasStates}
 use Rattle.pt_handles.proofs.InRow.{numbered-below}

@@ -1,11 +1,11 @@
 use Rattle.std.proofs.Common.{◌≡◌, ℕ, ◌+◌, ◌^◌, ◌<◌, List, Bool, ◌++◌, ◌∷◌, [], ap, sym, ◌∙◌, subst, arith}
 use Rattle.std.proofs.lemmas.Grind.{common_steps}
 use Rattle.std.specs.HashMap.{get}
-use Rattle.pt_sets.specs.declared.Place.{Place}
-use Rattle.pt_sets.specs.declared.Exit.{Exit}
-use Rattle.pt_sets.specs.Components.{edge_of, output_of, HasShape}
-use Rattle.pt_sets.specs.Known.{follow, next_in, output_in, IsStateBelow, IsBelow, KnowsPlace}
-use Rattle.pt_sets.proofs.Stepping.{IsStateBelow-next}
+use Rattle.pt_known.specs.declared.Place.{Place}
+use Rattle.pt_known.specs.declared.Exit.{Exit}
+use Rattle.pt_known.specs.Components.{edge_of, output_of, HasShape}
+use Rattle.pt_known.specs.Known.{follow, next_in, output_in, IsStateBelow, IsBelow, KnowsPlace}
+use Rattle.pt_known.proofs.Stepping.{IsStateBelow-next}
 use Rattle.pt_handles.specs.Rows.{IsNumbered, AddsState, same_place}
 use Rattle.pt_handles.specs.Knowing.{IsTested}
 use Rattle.pt_handles.proofs.Tested.{below-next}

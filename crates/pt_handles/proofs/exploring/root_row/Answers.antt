@@ -2,8 +2,8 @@ use Rattle.std.proofs.Common.{◌≡◌, ◌≤◌, ℕ, List, ◌++◌, ◌∷�
 use Rattle.std.proofs.lemmas.List.Elements.{All-push}
 use Rattle.std.specs.HashMap.{get}
 use Rattle.std.specs.List.{All}
-use Rattle.pt_sets.specs.declared.Place.{Place}
-use Rattle.pt_sets.specs.Components.{states_of}
+use Rattle.pt_known.specs.declared.Place.{Place}
+use Rattle.pt_known.specs.Components.{states_of}
 use Rattle.pt_handles.specs.Handles.{state_of}
 use Rattle.pt_handles.specs.Rows.{IsRow, same_place, size_of}
 use Rattle.pt_handles.specs.Knowing.{HasStates}

@@ -3,17 +3,17 @@ use Rattle.std.proofs.lemmas.List.FromFn.{length-map-range_with_len}
 use Rattle.std.specs.Arc.{arc_value}
 use Rattle.std.specs.Prelude.{◌==◌}
 use Rattle.std.specs.List.{position_or_len}
-use Rattle.pt_sets.specs.declared.Edge.{Edge}
-use Rattle.pt_sets.specs.declared.Edge.TheVariants.{Near}
+use Rattle.pt_known.specs.declared.Edge.{Edge}
+use Rattle.pt_known.specs.declared.Edge.TheVariants.{Near}
 use Rattle.pt_sets.specs.Automata.{next_of}
-use Rattle.pt_sets.specs.Components.{states_in_order}
+use Rattle.pt_known.specs.Components.{states_in_order}
 use Rattle.pt_code.specs.Coding.{IsCoding}
 use Rattle.pt_code.specs.Component.{component}
 use Rattle.pt_handles.specs.Adopting.{IsPart, IsPieceOf}
 use Rattle.pt_handles.proofs.PartWork.{begin, work-part, work-few, work-first, work-targets, work-skip, work-codes, work-realizes, work-placed}
 use Rattle.pt_handles.proofs.Absent.{work-absent}
-use Rattle.pt_sets.proofs.ListLaws.{Extends-refl}
-use Rattle.pt_sets.specs.Lists.{find}
+use Rattle.pt_known.proofs.ListLaws.{Extends-refl}
+use Rattle.pt_known.specs.Lists.{find}
 use Rattle.pt_handles.proofs.finding.find_part.Goals as goal
 
 pub bounds-part-0 : goal.bounds-part-0

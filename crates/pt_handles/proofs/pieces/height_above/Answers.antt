@@ -1,6 +1,6 @@
 use Rattle.std.proofs.Common.{◌≡◌, ℕ, ◌+◌, max, sym, ap, ◌∙◌, subst, arith, rules}
-use Rattle.pt_sets.specs.Components.{height_of}
-use Rattle.pt_sets.specs.Known.{code_or_empty}
+use Rattle.pt_known.specs.Components.{height_of}
+use Rattle.pt_known.specs.Known.{code_or_empty}
 use Rattle.pt_handles.specs.Adopting.{IsHeight}
 use Rattle.pt_handles.proofs.Filling.{height-near, height-far}
 use Rattle.pt_handles.proofs.pieces.height_above.Goals as goal

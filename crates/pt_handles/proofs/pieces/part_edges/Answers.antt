@@ -1,5 +1,5 @@
 use Rattle.std.proofs.Common.{ℕ, ◌^◌, ◌<◌, length, slice_index, slice_index_or, subst, sym}
-use Rattle.pt_sets.specs.declared.Edge.TheVariants.{Near}
+use Rattle.pt_known.specs.declared.Edge.TheVariants.{Near}
 use Rattle.pt_sets.specs.Automata.{next_of}
 use Rattle.pt_handles.proofs.Filling.{rows-step, appends-row}
 use Rattle.pt_handles.proofs.pieces.part_edges.Goals as goal

@@ -1,5 +1,5 @@
 use Rattle.std.proofs.Common.{◌^◌, slice_index, slice_index_or}
-use Rattle.pt_sets.specs.declared.Edge.TheVariants.{Near}
+use Rattle.pt_known.specs.declared.Edge.TheVariants.{Near}
 use Rattle.pt_sets.specs.Automata.{next_of}
 use Rattle.pt_handles.specs.Adopting.{AreRows}
 use Rattle.pt_handles.proofs.pieces.part_edges.Given as goal

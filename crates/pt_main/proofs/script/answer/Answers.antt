@@ -1,6 +1,6 @@
 use Rattle.std.proofs.Common.{arith, subst}
 use Rattle.std.specs.Prelude.{Some, None}
-use Rattle.pt_sets.proofs.ListLaws.{Extends-refl, Extends-trans}
+use Rattle.pt_known.proofs.ListLaws.{Extends-refl, Extends-trans}
 use Rattle.pt_read.specs.Reader.{left}
 use Rattle.pt_script.specs.State.{Standing}
 use Rattle.pt_main.specs.Parts.{CommandTold}

@@ -1,5 +1,5 @@
 use Rattle.std.proofs.Common.{◌≤◌}
-use Rattle.pt_sets.specs.Lists.{Extends}
+use Rattle.pt_known.specs.Lists.{Extends}
 use Rattle.pt_read.specs.Reader.{left}
 use Rattle.pt_main.proofs.Stepping.{commands_in}
 use Rattle.pt_main.proofs.Limits.{IsLow}

@@ -1,6 +1,6 @@
 use Rattle.std.proofs.Common.{◌≡◌, ℕ, ◌<◌, List, Bool, [], length, subst, sym, ap, ◌∙◌, arith}
 use Rattle.std.specs.Global.{Vec}
-use Rattle.pt_sets.specs.Elements.{ContainsByRecursion}
+use Rattle.pt_base.specs.Elements.{ContainsByRecursion}
 use Rattle.pt_project.specs.Closing.{row_of, IsMarked}
 use Rattle.pt_project.proofs.Rows.{row-get, in-append-end, no-items}
 use Rattle.pt_project.proofs.Marks.{IsClosing, closing-starts, closing-steps, closing-ends}

@@ -4,7 +4,7 @@ use Rattle.pt_terms.specs.Elaboration.{Work, each, give}
 use Rattle.pt_grammar.specs.Exprs.{symbol_of, items_of, items_or_none}
 use Rattle.pt_grammar.specs.declared.verbs.Verb.TheVariants as verb
 use Rattle.pt_read.specs.Commands.{understood, constant_of}
-use Rattle.pt_formula.specs.declared.node.Position.{Position}
+use Rattle.pt_base.specs.declared.Position.{Position}
 use Rattle.pt_terms.specs.Gives.{Fails}
 use Rattle.pt_read.proofs.ItemLemmas.{one_item}
 use Rattle.pt_read.proofs.Steps.{fails_first, given_then}

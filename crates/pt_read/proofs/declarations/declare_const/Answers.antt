@@ -1,6 +1,6 @@
 use Rattle.std.proofs.Common.{subst, sym}
 use Rattle.pt_grammar.specs.declared.verbs.Verb.TheVariants as verb
-use Rattle.pt_formula.specs.declared.node.Position.{Position}
+use Rattle.pt_base.specs.declared.Position.{Position}
 use Rattle.pt_read.specs.Commands.{understood}
 use Rattle.pt_terms.specs.Gives.{Gives}
 use Rattle.pt_read.proofs.ItemLemmas.{two_items}

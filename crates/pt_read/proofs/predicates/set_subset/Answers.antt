@@ -1,5 +1,5 @@
 use Rattle.std.proofs.Common.{subst, sym}
-use Rattle.pt_formula.specs.declared.node.Position.{Position}
+use Rattle.pt_base.specs.declared.Position.{Position}
 use Rattle.pt_syntax.specs.declared.kinds.ReadKind.TheVariants.{Sort as WrongSort}
 use Rattle.pt_grammar.specs.declared.verbs.Verb.TheVariants as verb
 use Rattle.pt_terms.specs.Elaboration.{require}

@@ -1,7 +1,7 @@
 use Rattle.std.proofs.Common.{List, subst}
 use Rattle.pt_eval.specs.Evaluating.{KnowsReached}
 use Rattle.pt_formula.specs.declared.node.Node.{Node}
-use Rattle.pt_formula.specs.declared.node.Position.{Position}
+use Rattle.pt_base.specs.declared.Position.{Position}
 use Rattle.pt_script.proofs.AskedSets.{knows-nodes, refuses-nodes}
 use Rattle.pt_script.proofs.asked.evaluate_roots.Goals as goal
 

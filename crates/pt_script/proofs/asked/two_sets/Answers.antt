@@ -1,6 +1,6 @@
 use Rattle.std.proofs.Common.{[], ◌∷◌, arith, refl, inl, inr}
 use Rattle.std.proofs.lemmas.Result.{err_from_is_err_and}
-use Rattle.pt_sets.proofs.ListLaws.{Extends-trans}
+use Rattle.pt_known.proofs.ListLaws.{Extends-trans}
 use Rattle.pt_script.proofs.AskedSets.{all-cheap, handle-at, has-longer, knows-two, knows-longer, refuses-set}
 use Rattle.pt_script.proofs.asked.two_sets.Goals as goal
 

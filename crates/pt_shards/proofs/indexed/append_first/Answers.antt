@@ -1,7 +1,7 @@
 use Rattle.std.proofs.Common.{rules, ◌≡◌, ◌+◌, ◌<◌, ◌^◌, ℕ, ◌∙◌, arith, List, Option, Some, ap, sym}
 use Rattle.std.specs.Map.{lookup}
 use Rattle.indexmap.specs.IndexMap.{get}
-use Rattle.pt_sets.specs.Lists.{code_eq}
+use Rattle.pt_known.specs.Lists.{code_eq}
 use Rattle.pt_shards.proofs.Firsts.{lookup-last, on_ok, one_moved, Some-kept}
 use Rattle.pt_shards.proofs.indexed.append_first.Goals as goal
 

@@ -1,7 +1,7 @@
 use Rattle.std.proofs.Common.{◌≡◌, ℕ, ◌+◌, ◌<◌, ◌≤◌, ◌^◌, List, option_map, Some}
 use Rattle.std.specs.Option.{option_or}
 use Rattle.indexmap.specs.IndexMap.{get, index_map_len, spare}
-use Rattle.pt_sets.specs.Lists.{code_eq}
+use Rattle.pt_known.specs.Lists.{code_eq}
 use Rattle.pt_shards.proofs.indexed.append_first.Given as goal
 
 abbrev pub invariant-loop-code : goal.invariant-loop-code

@@ -1,5 +1,5 @@
-use Rattle.pt_sets.specs.Lists.{code_eq}
-use Rattle.pt_sets.proofs.Positions.{position-append, position-push, position-pushed}
+use Rattle.pt_known.specs.Lists.{code_eq}
+use Rattle.pt_base.proofs.Positions.{position-append, position-push, position-pushed}
 use Rattle.pt_shards.proofs.laws.first_positions_stay.Goals as goal
 
 pub returns-clause-together : goal.returns-clause-together

@@ -1,7 +1,7 @@
 use Rattle.std.proofs.Common.{◌≡◌, ◌∙◌, ℕ, ◌<◌, ◌+◌, List, [], IfOk, IfErr, IfNone, None, Some, Option, length, position, sym, ap, arith, subst, get_or, get_or-set_other}
 use Rattle.std.proofs.lemmas.List.{get_or_default, map-set}
-use Rattle.pt_sets.specs.Lists.{Lists, list_of, code_eq}
-use Rattle.pt_sets.proofs.ListLaws.{Extends-refl}
+use Rattle.pt_known.specs.Lists.{Lists, list_of, code_eq}
+use Rattle.pt_known.proofs.ListLaws.{Extends-refl}
 use Rattle.pt_cells.specs.Seeing.{Cells, Seen, IsOf, RefusesFull}
 use Rattle.pt_store.specs.Shared.{lists_of}
 use Rattle.pt_store.proofs.Each.{AtEach-set, lists-grow, list_of-pass, list_of-set}

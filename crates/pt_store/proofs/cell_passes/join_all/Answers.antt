@@ -1,6 +1,6 @@
 use Rattle.std.proofs.Common.{◌≡◌, ◌∙◌, ◌<◌, ◌+◌, ◌∷◌, ◌++◌, [], length, length-append, sym, ap, arith, subst, rules, append_assoc, get_or}
 use Rattle.std.proofs.lemmas.List.{get_or_default, map-set, length-map}
-use Rattle.pt_sets.specs.Lists.{list_of}
+use Rattle.pt_known.specs.Lists.{list_of}
 use Rattle.pt_cells.specs.Seeing.{Cells, Seen, IsOf}
 use Rattle.pt_shards.specs.Shards.{JoinsLists}
 use Rattle.pt_store.specs.Shared.{lists_of}

@@ -1,5 +1,5 @@
 use Rattle.std.specs.Arc.{arc_value}
-use Rattle.pt_sets.proofs.ListLaws.{Extends-trans, find-extends}
+use Rattle.pt_known.proofs.ListLaws.{Extends-trans, find-extends}
 use Rattle.pt_store.proofs.tests.intern_two.Goals as goal
 
 pub returns-clause-extends : goal.returns-clause-extends

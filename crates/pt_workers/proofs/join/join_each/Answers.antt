@@ -1,7 +1,7 @@
 use Rattle.std.proofs.Common.{◌≡◌, ◌+◌, ◌≤◌, ◌∙◌, ◌∷◌, [], ℕ, List, length, ap, sym, arith, subst, append_assoc, append-nil, IfOk, IfErr}
 use Rattle.std.specs.Prelude.{sum_by}
 use Rattle.std.specs.Vec.Iter.{into_iter_items}
-use Rattle.pt_sets.proofs.ListLaws.{Extends-trans}
+use Rattle.pt_known.proofs.ListLaws.{Extends-trans}
 use Rattle.pt_workers.specs.Works.{AreTold, RefusesOnly, Some_of}
 use Rattle.pt_workers.specs.declared.hands.Report.{Report}
 use Rattle.pt_workers.specs.Reports.{IsReportOf, reported}

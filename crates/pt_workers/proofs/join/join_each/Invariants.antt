@@ -1,7 +1,7 @@
 use Rattle.std.proofs.Common.{◌≡◌, ◌+◌, ◌≤◌, ◌++◌, length, IfOk, IfErr}
 use Rattle.std.specs.Prelude.{sum_by}
 use Rattle.std.specs.Vec.Iter.{into_iter_items, into_iter_len}
-use Rattle.pt_sets.specs.Lists.{Extends}
+use Rattle.pt_known.specs.Lists.{Extends}
 use Rattle.pt_workers.specs.Works.{AreTold, RefusesOnly, Some_of}
 use Rattle.pt_workers.specs.Reports.{reported}
 use Rattle.pt_workers.proofs.join.join_each.Given as goal

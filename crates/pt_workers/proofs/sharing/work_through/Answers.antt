@@ -2,7 +2,7 @@ use Rattle.std.proofs.Common.{◌≡◌, ◌+◌, ℕ, take, sym, ◌∙◌}
 use Rattle.std.specs.Prelude.{slice_index}
 use Rattle.std.proofs.lemmas.List.{take_all}
 use Rattle.std.proofs.lemmas.List.Elements.{Contains-get_or}
-use Rattle.pt_sets.proofs.ListLaws.{Extends-trans}
+use Rattle.pt_known.proofs.ListLaws.{Extends-trans}
 use Rattle.pt_workers.specs.Works.{Some_of}
 use Rattle.pt_workers.proofs.Dealing.{take-next, told-push, numbers-push, told-in_order}
 use Rattle.pt_workers.proofs.Refusing.{refuses-moved, offers-next, offers-front}

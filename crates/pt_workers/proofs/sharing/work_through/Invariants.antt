@@ -1,6 +1,6 @@
 use Rattle.std.proofs.Common.{◌≡◌, ◌+◌, ◌≤◌, map, take}
 use Rattle.std.specs.Prelude.{All, sum_by}
-use Rattle.pt_sets.specs.Lists.{Extends}
+use Rattle.pt_known.specs.Lists.{Extends}
 use Rattle.pt_workers.proofs.sharing.work_through.Given as goal
 
 abbrev pub invariant-loop-number : goal.invariant-loop-number

@@ -1,5 +1,5 @@
 use Rattle.std.proofs.Common.{◌≡◌, length, position, None}
-use Rattle.pt_sets.specs.Lists.{code_eq}
+use Rattle.pt_known.specs.Lists.{code_eq}
 use Rattle.pt_shards.specs.Shards.{Begins}
 use Rattle.pt_cells.specs.Seeing.{IsOf}
 use Rattle.pt_cells.proofs.shard.CellShard.intern.Given as goal

@@ -1,7 +1,7 @@
 use Rattle.std.proofs.Common.{[], ◌∷◌, ap, sym, ◌∙◌}
 use Rattle.indexmap.specs.IndexSet.{insert_all}
-use Rattle.pt_sets.specs.declared.Edge.{Edge}
-use Rattle.pt_sets.specs.Components.{far_exits, exit_eq}
+use Rattle.pt_known.specs.declared.Edge.{Edge}
+use Rattle.pt_known.specs.Components.{far_exits, exit_eq}
 use Rattle.pt_code.proofs.Exits.{inserted-as, compares-exits}
 use Rattle.pt_code.proofs.links.Side.number.Goals as goal
 

@@ -1,9 +1,9 @@
 use Rattle.std.proofs.Common.{◌<◌, ℕ, List, length, ap, ◌∙◌, subst, sym, arith, get_or}
 use Rattle.std.proofs.lemmas.List.{take_all}
 use Rattle.std.proofs.lemmas.List.Elements.{All-get_or}
-use Rattle.pt_sets.specs.declared.Edge.{Edge}
-use Rattle.pt_sets.specs.declared.Edge.TheVariants.{Near}
-use Rattle.pt_sets.specs.Components.{StaysWithin}
+use Rattle.pt_known.specs.declared.Edge.{Edge}
+use Rattle.pt_known.specs.declared.Edge.TheVariants.{Near}
+use Rattle.pt_known.specs.Components.{StaysWithin}
 use Rattle.pt_code.specs.Sides.{numbers_of}
 use Rattle.pt_code.proofs.Beside.{HasMet-more, numbers-more}
 use Rattle.pt_code.proofs.links.Side.number_row.Goals as goal

@@ -1,5 +1,5 @@
 use Rattle.std.proofs.Common.{◌≡◌, ◌≤◌, ◌+◌, ℕ, List, take, length, vec_len}
-use Rattle.pt_sets.specs.declared.Exit.{Exit}
+use Rattle.pt_known.specs.declared.Exit.{Exit}
 use Rattle.pt_code.specs.Sides.{HasMet, numbers_of}
 use Rattle.pt_code.proofs.links.Side.number_row.Given as goal
 

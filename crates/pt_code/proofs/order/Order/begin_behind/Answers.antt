@@ -1,7 +1,7 @@
 use Rattle.std.proofs.Common.{◌<◌, ◌∷◌, [], length, sym, ap, ◌∙◌, get_or}
-use Rattle.pt_sets.specs.declared.Edge.{Edge}
-use Rattle.pt_sets.specs.declared.Edge.TheVariants.{Near}
-use Rattle.pt_sets.specs.Components.{near_states}
+use Rattle.pt_known.specs.declared.Edge.{Edge}
+use Rattle.pt_known.specs.declared.Edge.TheVariants.{Near}
+use Rattle.pt_known.specs.Components.{near_states}
 use Rattle.pt_code.specs.Searching.{visit_all}
 use Rattle.pt_code.proofs.Beside.{visits-next, visits-no_edge}
 use Rattle.pt_code.proofs.order.Order.begin_behind.Goals as goal

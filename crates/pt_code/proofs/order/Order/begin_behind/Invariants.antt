@@ -1,5 +1,5 @@
 use Rattle.std.proofs.Common.{◌≡◌, [], take, vec_len}
-use Rattle.pt_sets.specs.Components.{near_states}
+use Rattle.pt_known.specs.Components.{near_states}
 use Rattle.pt_code.specs.Searching.{IsNumbered, visit_all}
 use Rattle.pt_code.proofs.order.Order.begin_behind.Given as goal
 

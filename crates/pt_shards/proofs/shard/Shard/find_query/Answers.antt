@@ -1,7 +1,7 @@
 use Rattle.std.proofs.Common.{◌≡◌, ◌+◌, refl, sym, ap, ◌∙◌, length, position, Some, None}
 use Rattle.std.specs.Arc.{arc_value}
-use Rattle.pt_sets.specs.Lists.{code_eq}
-use Rattle.pt_sets.proofs.Positions.{position-both}
+use Rattle.pt_known.specs.Lists.{code_eq}
+use Rattle.pt_base.proofs.Positions.{position-both}
 use Rattle.pt_shards.proofs.shard.Shard.find_query.Goals as goal
 
 pub returns-in-Some : goal.returns-in-Some

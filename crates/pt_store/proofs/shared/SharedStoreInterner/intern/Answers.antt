@@ -1,7 +1,7 @@
 use Rattle.std.proofs.Common.{rules, ◌≡◌, ℕ, List, All, length, position, option_map, None, ap, subst}
 use Rattle.std.specs.Arc.{arc_value}
-use Rattle.pt_sets.specs.declared.Place.{Place}
-use Rattle.pt_sets.specs.Lists.{code_eq, list_of}
+use Rattle.pt_known.specs.declared.Place.{Place}
+use Rattle.pt_known.specs.Lists.{code_eq, list_of}
 use Rattle.pt_cells.specs.Seeing.{Cells, RefusesFull}
 use Rattle.pt_cells.specs.declared.shard.CellFault.{CellFault}
 use Rattle.pt_cells.specs.declared.shard.CellFault.TheVariants.{Full}

@@ -1,6 +1,6 @@
 use Rattle.std.proofs.Common.{Option, Some, None, slice_get, IfSome}
 use Rattle.std.specs.Arc.{arc_value}
-use Rattle.pt_sets.proofs.ListLaws.{Extends-trans, find-extends}
+use Rattle.pt_known.proofs.ListLaws.{Extends-trans, find-extends}
 use Rattle.pt_workers.proofs.tests.InternsWork.lasts.Goals as goal
 
 -- what follows of a value that may be absent

@@ -3,8 +3,8 @@ use Rattle.std.specs.Arc.{arc_value}
 use Rattle.std.proofs.lemmas.Bool.{cases_lt}
 use Rattle.std.proofs.lemmas.List.{get_or_past, take_all}
 use Rattle.std.proofs.lemmas.Option.{slice_get-get_or}
-use Rattle.pt_sets.specs.declared.Place.{Place}
-use Rattle.pt_sets.specs.Lists.{Lists, Home, Extends, IsWithin, code_eq, find, list_of}
+use Rattle.pt_known.specs.declared.Place.{Place}
+use Rattle.pt_known.specs.Lists.{Lists, Home, Extends, IsWithin, code_eq, find, list_of}
 use Rattle.pt_store.specs.declared.fault.StoreFault.{StoreFault}
 use Rattle.pt_store.specs.declared.fault.StoreFault.TheVariants as store
 use Rattle.pt_store.specs.Interning.{RefusesFull}

@@ -7,18 +7,18 @@ use Rattle.std.proofs.lemmas.Bool.Decides.{nat_tests}
 use Rattle.std.proofs.lemmas.List.{get_or-append-add, length-take-le, get_or_append_left, get_or-map}
 use Rattle.std.proofs.lemmas.List.Concat.{get_or-flat_map}
 use Rattle.std.proofs.lemmas.List.FromFn.{length-map-range_with_len, get_or-map-range_with_len}
-use Rattle.pt_sets.specs.declared.Exit.{Exit}
-use Rattle.pt_sets.specs.declared.Edge.{Edge}
-use Rattle.pt_sets.specs.declared.Edge.TheVariants.{Near, Far}
-use Rattle.pt_sets.specs.Components.{Component, component_of, StaysWithin, IsComponent, IsStronglyConnected, IsIsomorphism, MapsEdge, HasShape, exit_count, exit_of, output_of, edge_at, output_at, edge_numbered, target_cell, target_of, edges_from, outputs_from, letters_of, edge_number, exits_in_order, exit_numbers, exit_eq, far_exits, code_from, states_in_order, bit}
-use Rattle.pt_sets.specs.Elements.{first_places}
-use Rattle.pt_sets.proofs.Stepping.{edge_numbered-cases}
-use Rattle.pt_sets.proofs.Cells.{cell-within}
-use Rattle.pt_sets.proofs.Paths.{edge_at-component_of, output_at-component_of}
-use Rattle.pt_sets.proofs.Members.{In, In-AllOf, In-get_or, In-map, In-flat_map, In-filter, In-range, In-position, Distinct-injective}
-use Rattle.pt_sets.proofs.Isomorphic.{search_order-within, edge_at-within}
-use Rattle.pt_sets.proofs.SearchOrder.{order-length, order-complete, order-distinct}
-use Rattle.pt_sets.proofs.Used.{length-flat_map-each, length-mapped, front, back, code_in_order-split, length-front, exit-numbers-at, back-count, same_exit}
+use Rattle.pt_known.specs.declared.Exit.{Exit}
+use Rattle.pt_known.specs.declared.Edge.{Edge}
+use Rattle.pt_known.specs.declared.Edge.TheVariants.{Near, Far}
+use Rattle.pt_known.specs.Components.{Component, component_of, StaysWithin, IsComponent, IsStronglyConnected, IsIsomorphism, MapsEdge, HasShape, exit_count, exit_of, output_of, edge_at, output_at, edge_numbered, target_cell, target_of, edges_from, outputs_from, letters_of, edge_number, exits_in_order, exit_numbers, exit_eq, far_exits, code_from, states_in_order, bit}
+use Rattle.pt_base.specs.Elements.{first_places}
+use Rattle.pt_known.proofs.Stepping.{edge_numbered-cases}
+use Rattle.pt_base.proofs.Cells.{cell-within}
+use Rattle.pt_known.proofs.Paths.{edge_at-component_of, output_at-component_of}
+use Rattle.pt_base.proofs.Members.{In, In-AllOf, In-get_or, In-map, In-flat_map, In-filter, In-range, In-position, Distinct-injective}
+use Rattle.pt_known.proofs.Isomorphic.{search_order-within, edge_at-within}
+use Rattle.pt_known.proofs.SearchOrder.{order-length, order-complete, order-distinct}
+use Rattle.pt_known.proofs.Used.{length-flat_map-each, length-mapped, front, back, code_in_order-split, length-front, exit-numbers-at, back-count, same_exit}
 
 mul-suc_left : (k n : ℕ) → suc k * n ≡ n + k * n
 mul-suc_left k n = grind arith

@@ -5,28 +5,28 @@ use Rattle.std.specs.List.{All, AllPairs, sum_by}
 use Rattle.std.specs.Cmp.Lexicographic.{bytes_decides}
 use Rattle.std.proofs.lemmas.List.Quantifiers.{position-Some}
 use Rattle.std.proofs.lemmas.Option.{slice_get-get_or}
-use Rattle.pt_sets.specs.declared.Place.{Place}
-use Rattle.pt_sets.specs.declared.Exit.{Exit}
-use Rattle.pt_sets.specs.declared.Edge.{Edge}
-use Rattle.pt_sets.specs.declared.Edge.TheVariants.{Near, Far}
+use Rattle.pt_known.specs.declared.Place.{Place}
+use Rattle.pt_known.specs.declared.Exit.{Exit}
+use Rattle.pt_known.specs.declared.Edge.{Edge}
+use Rattle.pt_known.specs.declared.Edge.TheVariants.{Near, Far}
 use Rattle.pt_sets.specs.Words.{IsLetter, AreLetters}
 use Rattle.pt_sets.specs.Languages.{Language, SameLanguage, quotient}
 use Rattle.pt_sets.specs.Automata.{Reaches, Reaches.here, Reaches.further}
-use Rattle.pt_sets.specs.Components.{Component, component_of, IsNearEdge, IsStronglyConnected, IsIsomorphism, MapsEdge, HasShape, states_of, tracks_of, height_of, exit_count, exit_of, edge_of, output_of, edge_at, target_of, IsLeastCode, code_from}
-use Rattle.pt_sets.specs.Lists.{Lists, Home, list_of, code_at, find, code_eq}
-use Rattle.pt_sets.specs.Known.{code_or_empty, follow, next_in, output_in, language_in, IsBelow, IsCanonical, IsStateBelow, KnowsPlace, Known}
-use Rattle.pt_sets.specs.Realizing.{Realizes, InternedComponentsAreKnown}
-use Rattle.pt_sets.proofs.Stepping.{KnowsPlace-below, edge_numbered-cases}
-use Rattle.pt_sets.proofs.Cells.{cell-within}
+use Rattle.pt_known.specs.Components.{Component, component_of, IsNearEdge, IsStronglyConnected, IsIsomorphism, MapsEdge, HasShape, states_of, tracks_of, height_of, exit_count, exit_of, edge_of, output_of, edge_at, target_of, IsLeastCode, code_from}
+use Rattle.pt_known.specs.Lists.{Lists, Home, list_of, code_at, find, code_eq}
+use Rattle.pt_known.specs.Known.{code_or_empty, follow, next_in, output_in, language_in, IsBelow, IsCanonical, IsStateBelow, KnowsPlace, Known}
+use Rattle.pt_known.specs.Realizing.{Realizes, InternedComponentsAreKnown}
+use Rattle.pt_known.proofs.Stepping.{KnowsPlace-below, edge_numbered-cases}
+use Rattle.pt_base.proofs.Cells.{cell-within}
 use Rattle.pt_sets.proofs.Languages.{SameLanguage-sym, SameLanguage-trans, AreLetters-append}
-use Rattle.pt_sets.proofs.Paths.{edge_at-component_of, output_at-component_of, crossing, run_in, run-append}
-use Rattle.pt_sets.proofs.Matching.{at_place}
-use Rattle.pt_sets.proofs.Lacking.{language_in-run-quotient}
-use Rattle.pt_sets.proofs.Canonical.{at, known_states_are_one}
-use Rattle.pt_sets.proofs.Used.{IsComponent-component_of, exit-used}
-use Rattle.pt_sets.proofs.Isomorphic.{IsLeastCode-isomorphic}
-use Rattle.pt_sets.proofs.Realized.{edge-cases, near-within}
-use Rattle.pt_sets.proofs.ReadBack.{number_of, state_at, read-back, HasShape-code_from}
+use Rattle.pt_known.proofs.Paths.{edge_at-component_of, output_at-component_of, crossing, run_in, run-append}
+use Rattle.pt_known.proofs.Matching.{at_place}
+use Rattle.pt_known.proofs.Lacking.{language_in-run-quotient}
+use Rattle.pt_known.proofs.Canonical.{at, known_states_are_one}
+use Rattle.pt_known.proofs.Used.{IsComponent-component_of, exit-used}
+use Rattle.pt_known.proofs.Isomorphic.{IsLeastCode-isomorphic}
+use Rattle.pt_known.proofs.Realized.{edge-cases, near-within}
+use Rattle.pt_known.proofs.ReadBack.{number_of, state_at, read-back, HasShape-code_from}
 
 -- what is found stands there
 pub code_at-find : (home : Home) (lists : Lists) (code : List ℕ) (place : Place) → find home lists code ≡ Some place → code_at lists place ≡ Some code

@@ -1,0 +1,15 @@
+pub mod Examples
+pub mod ListLaws
+pub mod Stepping
+pub mod Longer
+pub mod Paths
+pub mod Matching
+pub mod Isomorphic
+pub mod SearchOrder
+pub mod Used
+pub mod Canonical
+pub mod Realized
+pub mod Lacking
+pub mod ReadBack
+pub mod Interned
+pub mod Searching

@@ -1,0 +1,4 @@
+pub mod Components
+pub mod Lists
+pub mod Known
+pub mod Realizing
