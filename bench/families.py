@@ -2,6 +2,7 @@
 
 Where an answer is known by construction it stands in `expected`; else it is None. `own` is a script for prestaf in
 place of the common one; its reply `true` means unsat, `false` sat. `mona` is the same question over natural numbers.
+`answers` is the number of questions in the script; `expected` is the answer to the last of them.
 """
 import random
 import sys
@@ -18,6 +19,7 @@ class Instance:
     expected: Optional[str]
     own: Optional[str] = None
     mona: Optional[str] = None
+    answers: int = 1
 
 
 def text(*lines):
@@ -249,6 +251,38 @@ def rounds(n):
                             "(check-sat)"), "sat" if n >= steps else "unsat")
 
 
+def incremental(n):
+    """n times one more assertion over one constant, and a question each time; at last none holds."""
+    for last, expected in ((n - 1, "sat"), (-1, "unsat")):
+        lines = [f"(assert (> x {k}))\n(check-sat)" for k in range(n - 1)]
+        script = text("(declare-const x Int)", *lines, f"(assert (<= x {number(2 * last)}))", "(check-sat)")
+        yield Instance(script, expected, answers=n)
+
+
+def levels(n):
+    """n times a level with one assertion and a question; at last none holds."""
+    for last, expected in ((n, "sat"), (-1, "unsat")):
+        bounds = [*range(1, n), last]
+        lines = [f"(push 1)\n(assert (< x {number(k)}))\n(check-sat)\n(pop 1)" for k in bounds]
+        yield Instance(text("(declare-const x Int)", "(assert (>= x 0))", *lines), expected, answers=n)
+
+
+def conjunction(n):
+    """n assertions over one constant, and one question."""
+    for bound, expected in ((n, "sat"), (n - 1, "unsat")):
+        yield Instance(question("x", *(f"(>= x {k})" for k in range(1, n)), f"(< x {bound})"), expected)
+
+
+def repeat(n):
+    """The same two sets compared n times: what coins 3 and 4 pay, and all numbers from 6 on with 0, 3 and 4."""
+    for least, expected in ((6, "unsat"), (5, "sat")):
+        sets = (f"(define-fun p ((x Int)) Bool {payable('x', (3, 4))})",
+                f"(define-fun q ((x Int)) Bool (or (= x 0) (= x 3) (= x 4) (>= x {least})))")
+        asked = "(push 1)\n(assert (not (= (p x) (q x))))\n(check-sat)\n(pop 1)"
+        yield Instance(text(*sets, "(declare-const x Int)", *[asked] * n), expected,
+                       own=text(*sets, *["(set-equal p q)"] * n), answers=n)
+
+
 FAMILIES = {
     coins2: (10, 20, 40, 80, 160),
     coins3: (5, 10, 20, 40, 80),
@@ -266,6 +300,10 @@ FAMILIES = {
     equal: (10, 20, 40, 80, 160),
     drill: (1, 2, 3, 4, 5),
     rounds: (1, 2, 3, 4),
+    incremental: (100, 300, 1000, 3000),
+    levels: (400, 4000, 40000),
+    conjunction: (200, 2000, 20000),
+    repeat: (1000, 10000, 100000),
 }
 
 if __name__ == "__main__":  # families.py FAMILY SIZE INSTANCE: the script of one question

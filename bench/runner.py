@@ -29,7 +29,7 @@ class Solver:
     command: list
     version: Callable
     asked: Callable  # the text for an instance, None where it is not asked
-    answer: Callable  # sat or unsat for an output, else a word that says why not
+    answer: Callable  # sat or unsat for an output and a number of answers, else a word that says why not
 
 
 @dataclass
@@ -44,16 +44,20 @@ class Result:
     megabytes: float
 
 
-def smt_answer(output):
-    line = output.strip().split("\n")[0]
-    return line if line in ("sat", "unsat", "unknown") else "refused" if line.startswith("(error") else "failed"
+def smt_answer(output, answers):
+    """The last answer, where all were given; else what was said in place of the first that was not."""
+    lines = output.strip().split("\n")
+    other = next((line for line in lines if line not in ("sat", "unsat")), None)
+    if other:
+        return "unknown" if other == "unknown" else "refused" if other.startswith("(error") else "failed"
+    return lines[-1] if len(lines) == answers else "failed"
 
 
-def own_answer(output):
-    return {"true": "unsat", "false": "sat"}.get(output.strip(), smt_answer(output))
+def own_answer(output, answers):
+    return smt_answer(re.sub("^false$", "sat", re.sub("^true$", "unsat", output, flags=re.M), flags=re.M), answers)
 
 
-def mona_answer(output):
+def mona_answer(output, _answers):
     if "unsatisfiable" in output:
         return "unsat"
     return "sat" if "satisfying example" in output or "Formula is valid" in output else "failed"
@@ -65,6 +69,10 @@ def for_z3(instance):
     definitions = "".join(f"(define-fun divisible{m} ((n Int)) Bool (= (mod n {m}) 0))\n" for m in moduli)
     logic, rest = instance.script.split("\n", 1)
     return f"{logic}\n{definitions}" + re.sub(r"\(\(_ divisible (\d+)\) ", r"(divisible\1 ", rest)
+
+
+def for_cvc5(instance):
+    return "(set-option :incremental true)\n" * (instance.answers > 1) + instance.script
 
 
 def first_line(*command):
@@ -79,7 +87,7 @@ def solvers(program, states):
                lambda i: i.own or i.script, own_answer),
         Solver("z3", ["z3", "-in"], lambda: first_line("z3", "--version"), for_z3, smt_answer),
         Solver("cvc5", ["cvc5", "--lang=smt2", "-q"], lambda: first_line("cvc5", "--version"),
-               lambda i: i.script, smt_answer),
+               for_cvc5, smt_answer),
         Solver("mona", ["mona", "-q", "/dev/stdin"], lambda: first_line("mona", "--help"),
                lambda i: i.mona, mona_answer),
     ]
@@ -110,13 +118,13 @@ def measure(command, text, limit):
         return output, seconds, usage.ru_maxrss / 1024
 
 
-def ask(solver, text, limit):
+def ask(solver, text, answers, limit):
     output, seconds, megabytes = measure(solver.command, text, limit)
     times = [seconds]
     while output is not None and seconds < ONCE and len(times) < 3:
         _, again, _ = measure(solver.command, text, limit)
         times.append(again)
-    return "late" if output is None else solver.answer(output), statistics.median(times), megabytes
+    return "late" if output is None else solver.answer(output, answers), statistics.median(times), megabytes
 
 
 def run_family(family, sizes, chosen, limit):
@@ -133,7 +141,7 @@ def run_family(family, sizes, chosen, limit):
                 if solver.name in slow:
                     answer, seconds, megabytes = "not asked", 0.0, 0.0
                 else:
-                    answer, seconds, megabytes = ask(solver, text, limit)
+                    answer, seconds, megabytes = ask(solver, text, instance.answers, limit)
                 answers.append(answer)
                 known = instance.expected or ""
                 yield Result(solver.name, family.__name__, size, index, answer, known, seconds, megabytes)

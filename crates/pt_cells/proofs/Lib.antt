@@ -1,4 +1,5 @@
 pub mod Agreeing
 pub mod Levels
 pub mod Pushes
+pub mod Rows
 pub mod Walks

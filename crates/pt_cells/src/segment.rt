@@ -1,5 +1,5 @@
 // A segment of set-once cells.
-ghost use Rattle.std.specs.Prelude.{◌≡◌, ◌<◌, IfOk, IfSome, Some, length, slice_get};
+ghost use Rattle.std.specs.Prelude.{◌≡◌, ◌*◌, ◌<◌, IfOk, IfSome, Some, length, slice_get};
 ghost use Rattle.once_cell.specs.Once.{cell_name};
 
 use once_cell::race::{Note, OnceBox};
@@ -8,45 +8,95 @@ use pt_shards::HashedCode;
 use std::alloc::{AllocError, Global};
 use std::marker::Model;
 
-/// A segment of N cells, each set once. Contracts see the names of its cells.
+/// A row of 16 cells. Contracts see their names.
 #[derive(Drop)]
-pub(crate) struct Segment<const N: usize> {
-    cells: Vec<OnceBox<HashedCode>>,
+struct Row {
+    cells: [OnceBox<HashedCode>; 16],
 }
 
-impl<const N: usize> Model for Segment<N> {
+impl Model for Row {
     ghost use Rattle.std.specs.Prelude.{◌≡◌, ℕ, List, map, length};
     ghost use Rattle.once_cell.specs.Once.{cell_name};
 
     ghost Value = { List ℕ };
 
-    ghost view = { λ s. map cell_name s.cells.items };
+    ghost view = { λ r. map cell_name r.cells.items };
 
-    ghost invariant = { λ s. length s.cells.items ≡ N };
+    ghost invariant = { λ r. length r.cells.items ≡ 16 };
 }
 
-/// Cells that are empty. They are collected, which writes them all in one go, and not pushed one by one.
-fn empty_cells(alloc: Global, count: usize) -> Result<Vec<OnceBox<HashedCode>>, AllocError>
-    ensures { IfOk result (λ cells. length cells.items ≡ count) }
+impl Row {
+    /// Cells that are empty. They are written out, so that a row takes a few stores.
+    fn new(alloc: Global) -> Row {
+        Row {
+            cells: [
+                OnceBox::new(alloc),
+                OnceBox::new(alloc),
+                OnceBox::new(alloc),
+                OnceBox::new(alloc),
+                OnceBox::new(alloc),
+                OnceBox::new(alloc),
+                OnceBox::new(alloc),
+                OnceBox::new(alloc),
+                OnceBox::new(alloc),
+                OnceBox::new(alloc),
+                OnceBox::new(alloc),
+                OnceBox::new(alloc),
+                OnceBox::new(alloc),
+                OnceBox::new(alloc),
+                OnceBox::new(alloc),
+                OnceBox::new(alloc),
+            ],
+        }
+    }
+
+    /// The cell at a place.
+    fn cell(&self, place: usize) -> &OnceBox<HashedCode>
+        requires { place < 16 }
+        ensures { slice_get self.now place ≡ Some (cell_name result.now) }
+    {
+        &self.cells[place]
+    }
+}
+
+/// A segment of N rows of 16 cells, each set once. Contracts see the names of its cells.
+#[derive(Drop)]
+pub(crate) struct Segment<const N: usize> {
+    rows: Vec<Row>,
+}
+
+impl<const N: usize> Model for Segment<N> {
+    ghost use Rattle.std.specs.Prelude.{◌≡◌, ℕ, List, All, concat, length, ◌×◌};
+
+    ghost Value = { List ℕ };
+
+    ghost view = { λ s. concat s.rows.items };
+
+    ghost invariant = { λ s. (length s.rows.items ≡ N) × All (λ row. length row ≡ 16) s.rows.items };
+}
+
+/// Rows of empty cells. They are collected, which writes them all in one go, and not pushed one by one.
+fn empty_rows(alloc: Global, count: usize) -> Result<Vec<Row>, AllocError>
+    ensures { IfOk result (λ rows. length rows.items ≡ count) }
 {
-    (0..count).map(|_| OnceBox::new(alloc)).collect(alloc)
+    (0..count).map(|_| Row::new(alloc)).collect(alloc)
 }
 
 impl<const N: usize> Segment<N> {
-    /// A segment of N cells, which are empty.
+    /// A segment of N rows of cells, which are empty.
     pub(crate) fn new(alloc: Global) -> Result<Segment<N>, NoMemory>
-        ensures { IfOk result (λ s. length s ≡ N) }
+        ensures { IfOk result (λ s. length s ≡ N * 16) }
     {
-        let cells = empty_cells(alloc, N)?;
-        Ok(Segment { cells })
+        let rows = empty_rows(alloc, N)?;
+        Ok(Segment { rows })
     }
 
     /// The cell at a position.
     pub(crate) fn cell(&self, position: usize) -> &OnceBox<HashedCode>
-        requires { position < N }
+        requires { position < N * 16 }
         ensures { slice_get self.now position ≡ Some (cell_name result.now) }
     {
-        &self.cells[position]
+        self.rows[position / 16].cell(position % 16)
     }
 }
 

@@ -1,5 +1,5 @@
 // Segments that are made when they are first reached.
-ghost use Rattle.std.specs.Prelude.{◌≡◌, ◌<◌, ℕ, List, Some, None, IfOk};
+ghost use Rattle.std.specs.Prelude.{◌≡◌, ◌*◌, ◌<◌, ℕ, List, Some, None, IfOk};
 ghost use Rattle.once_cell.specs.Once.{cell_name};
 ghost use Rattle.pt_cells.specs.Places.{known_name};
 
@@ -10,7 +10,7 @@ use pt_shards::HashedCode;
 use std::alloc::Global;
 use std::marker::Model;
 
-/// A segment of N cells that is made when it is first reached. Contracts see its name.
+/// A segment of N rows of 16 cells that is made when it is first reached. Contracts see its name.
 #[derive(Drop)]
 pub(crate) struct Slot<const N: usize> {
     segment: OnceBox<Segment<N>>,
@@ -64,7 +64,7 @@ impl<const N: usize> Slot<N> {
         offset: usize,
     ) -> Result<&'a OnceBox<HashedCode>, NoMemory>
         requires of { note.old.0 ≡ self.now }
-        requires offset { offset < N }
+        requires offset { offset < N * 16 }
         ensures of { note.new.0 ≡ note.old.0 }
         ensures kept { (names : List ℕ) → note.old.1 ≡ Some names → note.new.1 ≡ Some names }
         ensures cell { IfOk result (λ c. known_name note.new.1 offset ≡ Some (cell_name c.now)) }

@@ -155,7 +155,7 @@ fn improve(piece: &Piece, shape: &Shape, order: Ordering, entry: u32, best: Best
     }
 }
 
-/// The first entry that gives the least code, with the order from it.
+/// The first entry that gives the least code, with the order from it. Each entry is compared with the best one so far.
 fn best_of(alloc: Global, piece: &Piece) -> Result<Best, NoMemory>
     requires component { IsComponent (component piece.now) }
     requires connected { IsStronglyConnected (component piece.now) }
@@ -184,25 +184,53 @@ fn best_of(alloc: Global, piece: &Piece) -> Result<Best, NoMemory>
     Ok(best)
 }
 
+/// The order in a component of one state.
+fn only_order(alloc: Global, piece: &Piece) -> Result<Order, NoMemory>
+    requires component { IsComponent (component piece.now) }
+    requires connected { IsStronglyConnected (component piece.now) }
+    requires only { piece.now.states ≡ 1 }
+    ensures order { IfOk result (λ order. order.states.items ≡ states_in_order (component piece.now) 0) }
+    ensures places { IfOk result (λ order. order.places.items ≡ numbers_from (component piece.now) 0) }
+{
+    let mut order = Order::new(alloc, 1)?;
+    order.begin(0);
+    Ok(order)
+}
+
+/// The first entry that gives the least code, and the order from it. One state alone is compared with none.
+fn first_best(alloc: Global, piece: &Piece) -> Result<(u32, Order), NoMemory>
+    requires component { IsComponent (component piece.now) }
+    requires connected { IsStronglyConnected (component piece.now) }
+    ensures leads { IfOk result (λ found. Leads (component piece.now) piece.now.states found.0) }
+    ensures order { IfOk result (λ found. found.1.states.items ≡ states_in_order (component piece.now) found.0) }
+    ensures places { IfOk result (λ found. found.1.places.items ≡ numbers_from (component piece.now) found.0) }
+{
+    if piece.states == 1 {
+        return Ok((0, only_order(alloc, piece)?));
+    }
+    let best = best_of(alloc, piece)?;
+    Ok((best.entry, best.order))
+}
+
 /// The lexicographically least code over all entry states, with the numbers of the states from the least-numbered
 /// entry that gives it.
 ///
 /// A breadth-first search numbers the states from each entry in turn, and stops where it is greater than the best one: rows
 /// of outputs are compared first, in the order of the search and without writing them, and a state with a row that is not a
 /// least one decides where the best order has least rows, as soon as a bound on its place tells that it will come; where all
-/// rows are the same, edges are compared side by side in both searches. The code is written once. So the cost is near linear in the edges where states differ in what is near
-/// them; at worst it is states times edges. Memory: 4 bytes for each different near edge, about 54 for each state, and a set
-/// of the exits.
+/// rows are the same, edges are compared side by side in both searches. The code is written once; that of one state alone is
+/// compared with none. So the cost is near linear in the edges where states differ in what is near them; at worst it is
+/// states times edges. Memory: 4 bytes for each different near edge, about 54 for each state, and a set of the exits.
 pub fn least_code(alloc: Global, piece: &Piece) -> Result<Coded, NoMemory>
     requires component { IsComponent (component piece.now) }
     requires connected { IsStronglyConnected (component piece.now) }
     ensures { IfOk result (λ coded. IsCoding (component piece.now) coded.0 coded.1) }
 {
-    let best = best_of(alloc, piece)?;
-    let code = write_code(alloc, piece, best.entry, &best.order)?;
+    let (entry, order) = first_best(alloc, piece)?;
+    let code = write_code(alloc, piece, entry, &order)?;
     Ok(Coded {
         code: Arc::new(alloc, Code::of(code))?,
-        numbers: best.order.places,
+        numbers: order.places,
     })
 }
 

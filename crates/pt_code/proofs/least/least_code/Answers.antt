@@ -7,4 +7,4 @@ use Rattle.pt_code.proofs.least.least_code.Goals as goal
 pub of-requires : goal.of-requires
 of-requires c =
     let p = component c.args.piece.now in
-    subst HasShape (sym c.in_ok-code.ensures) (HasShape-code_from p c.requires.component c.requires.connected c.in_ok-best.best.entry c.in_ok-best.ensures.leads.within)
+    subst HasShape (sym c.in_ok-code.ensures) (HasShape-code_from p c.requires.component c.requires.connected c.in_ok-entry.entry c.in_ok-entry.ensures.leads.within)

@@ -3,7 +3,7 @@ use Rattle.std.specs.List.{range_with_len}
 use Rattle.std.proofs.lemmas.Iterator.{YieldsList-from_range, YieldsList-from_any_map, length_from_collect}
 use Rattle.std.proofs.lemmas.List.{length-map}
 use Rattle.std.proofs.lemmas.List.FromFn.{length-range_with_len}
-use Rattle.pt_cells.proofs.segment.empty_cells.Goals as goal
+use Rattle.pt_cells.proofs.segment.empty_rows.Goals as goal
 
 pub returns : goal.returns
 returns c =
