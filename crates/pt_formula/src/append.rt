@@ -7,9 +7,9 @@ ghost use Rattle.pt_formula.specs.Entries.{shown, AreEntries};
 use crate::fault::FormulaFault;
 use crate::formula::Entry;
 use crate::node::Node;
-use pt_base::Position;
 use crate::variables::Variables;
 use crate::{MAX_NODES, MAX_TRACKS, NodeId};
+use pt_base::Position;
 
 /// Adds a node whose children are there, with its free variables.
 pub fn append(

@@ -1,10 +1,10 @@
 use crate::append::append;
 use crate::fault::FormulaFault;
 use crate::node::Node;
-use pt_base::Position;
 use crate::terms::Terms;
 use crate::variables::Variables;
 use crate::{Kind, NodeId, Op, Var};
+use pt_base::Position;
 use pt_digits::NoMemory;
 use std::alloc::Global;
 use std::marker::Model;

@@ -18,8 +18,8 @@ pub use fault::FormulaFault;
 pub use form::{Form, FormFault};
 pub use formula::Formula;
 pub use node::Node;
-pub use pt_base::Position;
 pub use pt_atoms::Kind;
+pub use pt_base::Position;
 pub use pt_digits::NoMemory;
 pub use terms::Terms;
 

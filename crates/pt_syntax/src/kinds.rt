@@ -1,8 +1,8 @@
 ghost use Rattle.std.specs.Prelude.{◌≡◌};
 ghost use Rattle.pt_syntax.specs.Rest.{no_memory as no_memory_refusal};
 
-use pt_digits::NoMemory;
 use pt_base::Position;
+use pt_digits::NoMemory;
 use std::alloc::{AllocError, AllocFailed};
 
 /// Why a text is refused.
