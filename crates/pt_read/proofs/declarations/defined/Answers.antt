@@ -8,7 +8,7 @@ use Rattle.pt_read.proofs.Defining.{after_parameters, from_nothing, gives_from}
 use Rattle.pt_read.proofs.declarations.defined.Goals as goal
 
 pub definition_of-requires-clause-context : goal.definition_of-requires-clause-context
-definition_of-requires-clause-context c = state_more c.names_stay_in_range.ensures c.args.work.now c.bind_parameters.new.work c.args.context.now c.bind_parameters.ensures.grows c.requires
+definition_of-requires-clause-context c = state_more c.names_stay_in_range.ensures c.args.work.now c.bind_parameters.new.work c.args.context.now c.bind_parameters.ensures.grows c.requires.state
 
 pub returns-in-Err-clause-gives : goal.returns-in-Err-clause-gives
 returns-in-Err-clause-gives c = subst (Fails c.in-Err.refusal) (sym (after_parameters c.args.context.now c.args.name.now c.args.parameters.now c.args.sort.now c.args.body.now c.args.work.now c.bind_parameters.new.work c.in_ok-x.x.now (c.bind_parameters.new.bound, c.bind_parameters.new.numbers.items, c.bind_parameters.new.sorts.items) (c.in_ok-x.ensures c.args.work.now)
