@@ -13,7 +13,7 @@ ghost use Rattle.pt_terms.specs.Sorts.{HasSort};
 ghost use Rattle.pt_terms.specs.Sound.{IsMeaningIn, IsBoundIn};
 ghost use Rattle.pt_read.specs.Context.{IsStateIn, IsKindIn, declared_function};
 ghost use Rattle.pt_terms.specs.Gives.{Gives, Grows};
-ghost use Rattle.pt_terms.specs.Numbers.{HasNumbers, term_size};
+ghost use Rattle.pt_terms.specs.Numbers.{HasNumbers, whole_size};
 ghost use Rattle.pt_read.specs.Numbers.{numbers_in_items};
 
 use crate::command::{CommandKind, Definition};
@@ -127,7 +127,7 @@ fn whole_term(
     e: &SExpr,
 ) -> Result<Meaning, ReadRefusal>
     requires state { IsStateIn work.old context.now }
-    requires room { HasNumbers work.old (term_size 257 e.now) }
+    requires room { HasNumbers work.old (whole_size e.now) }
     ensures gives { Gives (λ m. m) result work.old work.new (term (env context.now) e.now) }
     ensures range { IfOk result (λ m. IsMeaningIn work.new m) }
     ensures grows { Grows work.old work.new }
@@ -270,7 +270,7 @@ fn body_term(
 ) -> Result<Meaning, ReadRefusal>
     requires context { IsStateIn work.old context.now }
     requires bound { AllByRecursion (λ (b : Name × BoundValue). IsBoundIn work.old b.1) bound }
-    requires room { HasNumbers work.old (term_size 257 e.now) }
+    requires room { HasNumbers work.old (whole_size e.now) }
     ensures gives { Gives (λ m. m) result work.old work.new (term (record { bound = bound; live = context.now.symbols }) e.now) }
     ensures range { IfOk result (λ m. IsMeaningIn work.new m) }
     ensures grows { Grows work.old work.new }
@@ -294,7 +294,7 @@ fn definition_of(
 ) -> Result<CommandKind, ReadRefusal>
     requires context { IsStateIn work.old context.now }
     requires bound { AllByRecursion (λ (b : Name × BoundValue). IsBoundIn work.old b.1) bound }
-    requires room { HasNumbers work.old (term_size 257 body.now) }
+    requires room { HasNumbers work.old (whole_size body.now) }
     ensures gives { Gives (λ k. k) result work.old work.new (definition_of name.now context.now body.now (bound, numbers.items, sorts.items) sort) }
     ensures range { IfOk result (IsKindIn work.new) }
     ensures grows { Grows work.old work.new }
@@ -323,7 +323,7 @@ fn defined(
     body: &SExpr,
 ) -> Result<CommandKind, ReadRefusal>
     requires state { IsStateIn work.old context.now }
-    requires room { HasNumbers work.old (term_size 257 parameters.now + term_size 257 body.now) }
+    requires room { HasNumbers work.old (whole_size parameters.now + whole_size body.now) }
     ensures gives { Gives (λ k. k) result work.old work.new (defined_by context.now name.now parameters.now sort.now body.now) }
     ensures range { IfOk result (IsKindIn work.new) }
     ensures grows { Grows work.old work.new }

@@ -25,3 +25,7 @@ item_size d = size_within (suc (suc (looks d)))
 
 abbrev pub items_size : ℕ → List SExpr → ℕ
 items_size d = sum_by (item_size d)
+
+-- No text has lists nested more than 256 deep.
+unfoldable pub whole_size : SExpr → ℕ
+whole_size = term_size 257
