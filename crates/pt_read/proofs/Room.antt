@@ -1,5 +1,5 @@
 -- Numbers that are left for a command are left for its parts, and after its parameters for its body.
-use Rattle.std.proofs.Common.{◌≡◌, ℕ, suc, ◌+◌, ◌≤◌, ◌<◌, ◌^◌, List, [], ◌∷◌, ◌++◌, length, map, drop, get_or, arith, refl, ap, subst, Option}
+use Rattle.std.proofs.Common.{◌≡◌, ℕ, suc, ◌+◌, ◌≤◌, ◌<◌, List, [], ◌∷◌, ◌++◌, length, map, arith, refl, ap, subst, Option}
 use Rattle.std.specs.Prelude.{sum_by, Some, None, Ok}
 use Rattle.std.proofs.lemmas.List.Sums.{sum_by-cons}
 use Rattle.pt_syntax.specs.declared.sexpr.SExpr.{SExpr}
@@ -9,12 +9,12 @@ use Rattle.pt_syntax.specs.Lists.{Script, Done, Stops, Command}
 use Rattle.pt_syntax.specs.Rest.{IsNextList, NextOrNoMemory}
 use Rattle.pt_formula.specs.declared.node.Position.{Position}
 use Rattle.pt_grammar.specs.Exprs.{items_of, items_or_none}
-use Rattle.pt_terms.specs.Elaboration.{give, ◌>>=◌}
+use Rattle.pt_terms.specs.Elaboration.{give}
 use Rattle.pt_terms.specs.Numbers.{AddsAtMost, looks, whole_size}
 use Rattle.pt_terms.specs.Terms.{variable, as_bound}
 use Rattle.pt_read.specs.Defining.{Parameters, parameter, parameters_from}
 use Rattle.pt_read.specs.Numbers.{numbers_in, numbers_in_items}
-use Rattle.pt_read.proofs.FewNumbers.{some-size, first-of, items-within, adds-give, adds-then, adds-more, adds-variable}
+use Rattle.pt_read.proofs.FewNumbers.{some-size, items-within, adds-give, adds-then, adds-more, adds-variable}
 
 many-items : (n : ℕ) (es : List SExpr) → length es ≤ sum_by (size_within n) es
 many-items n [] = omega arith

@@ -1,8 +1,6 @@
-use Rattle.std.proofs.Common.{◌≡◌, ◌+◌, ◌≤◌, ◌<◌, List, arith, ap, subst}
-use Rattle.pt_syntax.specs.declared.sexpr.SExpr.{SExpr}
+use Rattle.std.proofs.Common.{arith, ap}
 use Rattle.pt_syntax.specs.Rest.{lists_left}
-use Rattle.pt_read.specs.Numbers.{numbers_in, numbers_in_items}
-use Rattle.pt_read.specs.Rest.{Rest}
+use Rattle.pt_read.specs.Numbers.{numbers_in_items}
 use Rattle.pt_read.proofs.Room.{nothing-fewer, list-fewer}
 use Rattle.pt_read.proofs.ReadingLaws.{nothing-read, command-read}
 use Rattle.pt_read.proofs.reader.Reader.read.Goals as goal
