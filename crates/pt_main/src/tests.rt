@@ -15,6 +15,7 @@ mod counting;
 mod drills;
 mod hostile;
 mod laws;
+mod memos;
 mod sets;
 mod workers;
 

@@ -40,7 +40,7 @@ impl<K: Eq + Hash, V> Memo<K, V> {
             None => unreachable!(),
         };
         Ok(Memo {
-            cache: LruCache::new(alloc, capacity)?,
+            cache: LruCache::sparse(alloc, capacity)?,
             built: 0,
         })
     }
