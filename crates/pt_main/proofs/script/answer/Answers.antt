@@ -21,6 +21,8 @@ commands-init g c = record {
   counted = omega arith;
   extends = Extends-refl (g.I.Pass.Codes.lists c.args.pass.now);
   kept = c.requires.owned;
+  good = c.in-Ok-new.ensures.good g.I.Pass.Codes.home (g.I.Pass.Codes.lists c.args.pass.now);
+  members = omega (arith, c.in-Ok-new.ensures.count);
 }
 
 pub returns-in-Ok-None-clause-answer : goal.returns-in-Ok-None-clause-answer
@@ -76,6 +78,8 @@ commands-preserved g c =
       counted = omega (arith, c.commands.invariant.counted, c.in-None.ensures.counted);
       extends = Extends-trans _ _ _ c.commands.invariant.extends c.in-None.ensures.extends;
       kept = c.in-None.ensures.kept;
+      good = c.in-None.ensures.good;
+      members = omega (arith, c.commands.invariant.members, c.in-None.ensures.members);
     }
 
 pub commands-smaller : goal.commands-smaller

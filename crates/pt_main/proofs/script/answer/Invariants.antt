@@ -1,5 +1,6 @@
-use Rattle.std.proofs.Common.{◌≤◌}
+use Rattle.std.proofs.Common.{◌≤◌, length}
 use Rattle.pt_sets.specs.Lists.{Extends}
+use Rattle.pt_eval.specs.Memos.{AreGood}
 use Rattle.pt_read.specs.Reader.{left}
 use Rattle.pt_main.proofs.Stepping.{commands_in}
 use Rattle.pt_main.proofs.Limits.{IsLow}
@@ -13,6 +14,8 @@ invariant-commands g l = record {
   counted : g.K.Sink.faults l.initial.sink ≤ g.K.Sink.faults l.sink;
   extends : Extends (g.I.Pass.Codes.lists l.initial.pass) (g.I.Pass.Codes.lists l.pass);
   kept : g.I.Interner.owns l.store l.pass;
+  good : AreGood g.I.Pass.Codes.home (g.I.Pass.Codes.lists l.pass) l.memos;
+  members : l.given.workers ≤ length l.memos;
 }
 
 abbrev pub decreases-commands : goal.decreases-commands

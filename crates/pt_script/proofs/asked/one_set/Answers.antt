@@ -22,3 +22,11 @@ returns-clause-asked g c =
     let new = g.I.Pass.Codes.lists c.widen_body.new.pass in
     knows-one home new c.args.scope.now (c.args.p.now.body ∷ []) c.args.p.now c.args.bound c.in_ok-handle.handle
     (knows-longer c.longer_lists_know.ensures home old new c.widen_body.ensures.extends _ c.in_ok-bodies.ensures.asked) c.in_ok-handle.ensures.ok
+
+pub returns-clause-good : goal.returns-clause-good
+returns-clause-good g c =
+    c.good_memos_stay_good.ensures g.I.Pass.Codes.home (g.I.Pass.Codes.lists c.evaluate_roots.new.pass) (g.I.Pass.Codes.lists c.widen_body.new.pass) c.evaluate_roots.new.memos c.widen_body.ensures.extends c.evaluate_roots.ensures.good
+
+pub returns-in_err-handle-clause-good : goal.returns-in_err-handle-clause-good
+returns-in_err-handle-clause-good g c =
+    c.good_memos_stay_good.ensures g.I.Pass.Codes.home (g.I.Pass.Codes.lists c.evaluate_roots.new.pass) (g.I.Pass.Codes.lists c.widen_body.new.pass) c.evaluate_roots.new.memos c.widen_body.ensures.extends c.evaluate_roots.ensures.good
