@@ -125,7 +125,7 @@ pub(crate) fn truth_solutions<I: Interner>(
 fn coefficients_of(alloc: Global, terms: &[(Var, i64)]) -> Result<Coefficients, NoMemory>
     ensures { IfOk result (λ c. c ≡ map (λ t. t.1) terms.now) }
 {
-    let mut items = Vec::new(alloc);
+    let mut items = Vec::with_capacity(alloc, terms.len())?;
     for (_, coefficient) in terms {
         items.push(*coefficient)?;
     }

@@ -26,7 +26,7 @@ pub fn track_map(alloc: Global, inner: &[Var], outer: &[Var]) -> Result<Vec<u8>,
     requires { length outer.now ≤ 10 }
     ensures { IfOk result (λ map. map.items ≡ tracks_of inner.now outer.now) }
 {
-    let mut map = Vec::new(alloc);
+    let mut map = Vec::with_capacity(alloc, inner.len())?;
     for v in inner {
         map.push(track(*v, outer) as u8)?;
     }
