@@ -1,8 +1,7 @@
 -- The sets of normal forms that are kept: they stay right, and answer later calls.
 use Rattle.std.proofs.Common.{◌≡◌, ◌⊎◌, inl, inr, ℕ, ◌<◌, ◌≤◌, true, false, List, length, Contains, Decides, Option, Some, None, refl, ap, sym, subst, arith}
 use Rattle.std.specs.Prelude.{ℤ}
-use Rattle.std.specs.Ordering.{int_eq}
-use Rattle.std.specs.Cmp.Lexicographic.{pointwise, pointwise_decides}
+use Rattle.std.specs.Cmp.Lexicographic.{pointwise_decides}
 use Rattle.std.proofs.lemmas.Bool.{cases_lt}
 use Rattle.std.proofs.lemmas.Bool.Decides.{Decides-and, Decides-like, Decides-eqb, Decides-int_eq}
 use Rattle.pt_sets.specs.Sets.{VectorSet, SameSet}
@@ -59,7 +58,7 @@ kinds_decide k l = (λ e. absurd (grind (arith, e)), λ e. absurd (grind (arith,
 forms_decide : (f g : Form) → Decides (compared.ghosts.eq f g) (f ≡ g)
 forms_decide f g =
     Decides-like _ (λ e. λ i. record { normal = record { kind = e.0.0 i; coefficients = e.0.1 i; constant = e.1 i } }) (λ e. ((ap (λ x. x.normal.kind) e, ap (λ x. x.normal.coefficients) e), ap (λ x. x.normal.constant) e))
-    (Decides-and _ _ (Decides-and _ _ (kinds_decide f.normal.kind g.normal.kind) (pointwise_decides int_eq Decides-int_eq f.normal.coefficients g.normal.coefficients)) (Decides-int_eq f.normal.constant g.normal.constant))
+    (Decides-and _ _ (Decides-and _ _ (kinds_decide f.normal.kind g.normal.kind) (pointwise_decides Decides-int_eq f.normal.coefficients g.normal.coefficients)) (Decides-int_eq f.normal.constant g.normal.constant))
 
 -- an answer that is found is right
 pub found-right : (home : Home) (lists : Lists) (f : Form) (entries : List (Form × Answer Handle)) (e : Form) (answer : Answer Handle) → compared.eq-value.it f e ≡ true → AreBuilt home lists entries → Contains entries (e, answer) → IsBuilt home lists f answer
