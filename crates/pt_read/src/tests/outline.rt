@@ -45,6 +45,14 @@ fn write_terms(alloc: Global, out: &mut Vec<u8>, terms: &[(u32, i64)]) -> Result
     Ok(())
 }
 
+fn write_side(alloc: Global, out: &mut Vec<u8>, side: &[(u32, u32)]) -> Result<(), AllocError> {
+    for (variable, node) in side {
+        let text = format!(in alloc; " v{}:{}", variable, node)?;
+        out.extend_from_slice(text.as_bytes())?;
+    }
+    Ok(())
+}
+
 fn write_predicate(
     alloc: Global,
     out: &mut Vec<u8>,
@@ -69,10 +77,11 @@ fn write_sort(out: &mut Vec<u8>, sort: Sort) -> Result<(), AllocError> {
 
 fn write_meaning(alloc: Global, out: &mut Vec<u8>, meaning: &Meaning) -> Result<(), AllocError> {
     match meaning {
-        Meaning::Int(form) => {
+        Meaning::Int(term) => {
             write_word(out, b"Int")?;
-            write_terms(alloc, out, form.terms.as_slice())?;
-            write_integer(alloc, out, i128::from(form.constant))
+            write_terms(alloc, out, term.form.terms.as_slice())?;
+            write_integer(alloc, out, i128::from(term.form.constant))?;
+            write_side(alloc, out, term.side.as_slice())
         }
         Meaning::Bool(node) => {
             write_word(out, b"Bool")?;
