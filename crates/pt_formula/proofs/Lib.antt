@@ -1,5 +1,6 @@
 pub mod TreeLaws
 pub mod EntryLaws
+pub mod Fronts
 pub mod MadeNodes
 pub mod Unions
 pub mod TruthLaws
