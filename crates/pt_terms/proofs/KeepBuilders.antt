@@ -40,9 +40,88 @@ KeepsMaking P p m w = Keeps P (making p m) w
 
 same-step : {A : Type 0} (P : A → Work → Type 0) (m k : Elab A) (w : Work) → k w ≡ m w → Keeps P m w → Keeps P k w
 same-step P m k w e h sound w' x ok = h sound w' x (sym e ∙ ok)
-  where
-    open-up : Work
-    open-up = w
 
 pub making-keeps : {A B : Type 0} (P : A → Work → Type 0) (R : B → Work → Type 0) (p : Position) (m : Make A) (k : A → Make B) (w : Work) → KeepsMaking P p m w → ((x : A) (u : Work) → Grows w u → P x u → KeepsMaking R p (k x) u) → KeepsMaking R p (λ f. making_steps.follow (m f) k) w
 making-keeps P R p m k w first second = same-step R (making p m >>= λ x. making p (k x)) (making p (λ f. making_steps.follow (m f) k)) w (making-then p m k w) (keeps-then P R (making p m) (λ x. making p (k x)) w first second)
+
+keeps-made : Laws → (p : Position) (n : Node) (w : Work) → IsNewNode w n → KeepsMaking IsNodeIn p (making_steps.make n p) w
+keeps-made laws p n w fits = same-step IsNodeIn (make n p) (making p (making_steps.make n p)) w (making-make p n w) (keeps-make laws n p w fits)
+
+keeps-made-exists : Laws → (p : Position) (v a : ℕ) (w : Work) → v < length w.given → IsNodeIn a w → KeepsMaking IsNodeIn p (making_steps.make_exists v a p) w
+keeps-made-exists laws p v a w lt h = same-step IsNodeIn (make_exists v a p) (making p (making_steps.make_exists v a p)) w (making-exists p v a w) (keeps-exists laws v a p w lt h)
+
+same-form : (p : Position) (f : Form) (w : Work) → Keeps IsFormIn (form f p) w → KeepsMaking IsFormIn p (making_steps.form f p) w
+same-form p f w h = same-step IsFormIn (form f p) (making p (making_steps.form f p)) w (making-form p f w) h
+
+-- ---- pairs
+
+pub keeps-atom : Laws → (p : Position) (kind : Kind) (ts : List Monomial) (c : ℤ) (w : Work) → AreTerms ts → AreIntegers w.given ts → IsModulus kind → KeepsMaking IsNodeIn p (pairs.atom p kind ts c) w
+keeps-atom laws p kind [] c w terms ints modulus = by (pairs.zero_compares kind c)
+  where
+    by : (b : Bool) → KeepsMaking IsNodeIn p (making_steps.make (truth_node b) p) w
+    by true = keeps-made laws p node.True w tt
+    by false = keeps-made laws p node.False w tt
+keeps-atom laws p kind (t ∷ ts) c w terms ints modulus = by (fits c)
+  where
+    refused : KeepsMaking IsNodeIn p (making_steps.refuse term_fault.Coefficient) w
+    refused sound w' x ok = absurd cc
+
+    by : (b : Bool) → KeepsMaking IsNodeIn p (if b then making_steps.make (node.Atom kind (t ∷ ts) c) p else making_steps.refuse term_fault.Coefficient) w
+    by true = keeps-made laws p (node.Atom kind (t ∷ ts) c) w ((omega arith, terms, modulus), inl ints)
+    by false = refused
+
+keeps-compared : Laws → (p : Position) (r : Relation) (f : Form) (w : Work) → IsFormIn f w → KeepsMaking IsNodeIn p (pairs.compared p r f) w
+keeps-compared laws p comparison.Equal f w h = keeps-atom laws p Eq f.terms (neg_ℤ f.constant) w h.0.terms h.1 tt
+keeps-compared laws p comparison.AtMost f w h = keeps-atom laws p Le f.terms (neg_ℤ f.constant) w h.0.terms h.1 tt
+keeps-compared laws p comparison.AtLeast f w h = keeps-atom laws p Le f.terms (neg_ℤ f.constant) w h.0.terms h.1 tt
+keeps-compared laws p comparison.Below f w h = keeps-atom laws p Le f.terms (neg_ℤ f.constant -ℤ pos 1) w h.0.terms h.1 tt
+keeps-compared laws p comparison.Above f w h = keeps-atom laws p Le f.terms (neg_ℤ f.constant -ℤ pos 1) w h.0.terms h.1 tt
+
+pub keeps-compare : Laws → (p : Position) (r : Relation) (a b : Form) (w : Work) → IsFormIn a w → IsFormIn b w → KeepsMaking IsNodeIn p (pairs.compare p r a b) w
+keeps-compare laws p r a b w ha hb = by (pairs.is_upward r)
+  where
+    by : (t : Bool) → KeepsMaking IsNodeIn p (λ f. making_steps.follow (making_steps.form (if t then form_difference b a else form_difference a b) p f) (pairs.compared p r)) w
+    by true = making-keeps IsFormIn IsNodeIn p (making_steps.form (form_difference b a) p) (pairs.compared p r) w (same-form p (form_difference b a) w (keeps-difference b a p w hb ha)) (λ f u g h. keeps-compared laws p r f u h)
+    by false = making-keeps IsFormIn IsNodeIn p (making_steps.form (form_difference a b) p) (pairs.compared p r) w (same-form p (form_difference a b) w (keeps-difference a b p w ha hb)) (λ f u g h. keeps-compared laws p r f u h)
+
+pub keeps-divisible : Laws → (p : Position) (n : ℕ) (a : Form) (w : Work) → IsModulus (Mod n) → IsFormIn a w → KeepsMaking IsNodeIn p (pairs.divisible p n a) w
+keeps-divisible laws p n a w modulus h = keeps-atom laws p (Mod n) a.terms (int_rem_euclid (neg_ℤ a.constant) (pos n)) w h.0.terms h.1 modulus
+
+-- ---- sides
+
+-- definitions in the range of the work
+abbrev pub AreDefinitionsIn : Side → Work → Type 0
+AreDefinitionsIn side w = AllByRecursion (λ (x : Definition). HasSort w.given x.0 sort.Int × (x.1 < length w.formula)) side
+
+definitions-more : (side : Side) (v w : Work) → Grows v w → AreDefinitionsIn side v → AreDefinitionsIn side w
+definitions-more [] v w g h = tt
+definitions-more (x ∷ side) v w g h = ((has-more v w x.0 sort.Int g h.0.0, node_more v w x.1 g h.0.1), definitions-more side v w g h.1)
+
+keeps-bind : Laws → (p : Position) (v d a : ℕ) (w : Work) → HasSort w.given v sort.Int → d < length w.formula → IsNodeIn a w → KeepsMaking IsNodeIn p (builders.bind v d a p) w
+keeps-bind laws p v d a w has hd ha sound w' x e = by (contains v (variables_of w.formula a)) e
+  where
+    both : KeepsMaking IsNodeIn p (λ f. making_steps.follow (making_steps.make (node.And d a) p f) (λ b. making_steps.make_exists v b p)) w
+    both = making-keeps IsNodeIn IsNodeIn p (making_steps.make (node.And d a) p) (λ b. making_steps.make_exists v b p) w (keeps-made laws p (node.And d a) w (hd, ha))
+        (λ b u g h. keeps-made-exists laws p v b u (has-below u.given v sort.Int (has-more w u v sort.Int g has)) h)
+
+    by : (t : Bool) → Rattle.pt_terms.specs.Elaboration.lifted w.given p (if t then making_steps.follow (making_steps.make (node.And d a) p w.formula) (λ b. making_steps.make_exists v b p) else Ok (a, w.formula)) ≡ Ok (x, w') → IsSoundWork w' × Grows w w' × IsNodeIn x w'
+    by true k = both sound w' x k
+    by false k = keeps-give IsNodeIn a w ha sound w' x k
+
+pub keeps-close : Laws → (p : Position) (a : ℕ) (side : Side) (w : Work) → IsNodeIn a w → AreDefinitionsIn side w → KeepsMaking IsNodeIn p (builders.close a side p) w
+keeps-close laws p a [] w ha h = keeps-give IsNodeIn a w ha
+keeps-close laws p a (x ∷ side) w ha h =
+    making-keeps IsNodeIn IsNodeIn p (builders.close a side p) (λ b. builders.bind x.0 x.1 b p) w (keeps-close laws p a side w ha h.1)
+    (λ b u g hb. keeps-bind laws p x.0 x.1 b u (has-more w u x.0 sort.Int g h.0.0) (node_more w u x.1 g h.0.1) hb)
+
+-- ---- definitions of variables
+
+zero-fits : fits (pos 0) ≡ true
+zero-fits = refl
+
+keeps-size : (p : Position) (n : ℤ) (w : Work) → KeepsMaking (λ (m : ℕ) u. (m ≡ unsigned_abs n) × (m < 2 ^ 63)) p (builders.size n) w
+keeps-size p n w sound w' x e = by (nat_lt (unsigned_abs n) (2 ^ 63)) refl e
+  where
+    by : (t : Bool) → nat_lt (unsigned_abs n) (2 ^ 63) ≡ t → making p (if t then making_steps.give (unsigned_abs n) else making_steps.refuse term_fault.Coefficient) w ≡ Ok (x, w') → IsSoundWork w' × Grows w w' × (x ≡ unsigned_abs n) × (x < 2 ^ 63)
+    by true t k = keeps-give (λ (m : ℕ) u. (m ≡ unsigned_abs n) × (m < 2 ^ 63)) (unsigned_abs n) w (refl, grind (arith, Rattle.std.proofs.lemmas.Bool.Decides.nat_tests)) sound w' x k
+    by false t k = absurd cc

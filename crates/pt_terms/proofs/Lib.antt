@@ -33,6 +33,8 @@ pub mod FewNumbers
 pub mod KeepSteps
 pub mod KeepNodes
 pub mod KeepForms
+pub mod Lifting
+pub mod KeepBuilders
 pub mod KeepTheory
 pub mod KeepCopies
 pub mod ReplacedParameters
