@@ -3,6 +3,7 @@ mod binders;
 mod commands;
 mod declarations;
 mod definitions;
+mod division;
 mod kinds;
 mod laws;
 mod limits;
