@@ -8,8 +8,9 @@ use Rattle.pt_syntax.specs.declared.kinds.ReadRefusal.{ReadRefusal}
 use Rattle.pt_grammar.specs.Words.{Name}
 use Rattle.pt_terms.specs.Elaboration.{Work, Elab, ◌>>=◌, make}
 use Rattle.pt_terms.specs.Gives.{Fails, Gives}
+use Rattle.pt_terms.specs.Names as names
 use Rattle.pt_terms.specs.Names.{Use, Constant_of, Defined, Env, look_up, plain_use}
-use Rattle.pt_terms.specs.Layers.{symbol_term, plain_bound, bound_term}
+use Rattle.pt_terms.specs.Layers.{symbol_term, plain_found, found_term}
 use Rattle.pt_terms.specs.Theory.{as_truth}
 
 -- a call that gives what one step gives gives what another step gives that does the same there
@@ -18,16 +19,17 @@ gives_same view (Ok x) old new m f e h = e ∙ h
 gives_same view (Err refusal) old new m f e h = subst (Fails refusal) (sym e) h
 
 -- a symbol that is no truth value is what it is bound to
-pub symbol-bound : (env : Env) (p : Position) (name : Name) (w : Work) → false ≡ bytes_eq (codes "true") name → false ≡ bytes_eq (codes "false") name → symbol_term env p name w ≡ (plain_bound p (look_up env name) >>= bound_term p) w
-symbol-bound env p name w h k = by-tests (bytes_eq name (codes "true")) (bytes_eq name (codes "false")) (sym (h ∙ nat_list_eq_equiv.symm (codes "true") name)) (sym (k ∙ nat_list_eq_equiv.symm (codes "false") name))
+pub symbol-found : (env : Env) (p : Position) (name : Name) (w : Work) → false ≡ bytes_eq (codes "true") name → false ≡ bytes_eq (codes "false") name → symbol_term env p name w ≡ (plain_found p (look_up env name) >>= found_term p) w
+symbol-found env p name w h k = by-tests (bytes_eq name (codes "true")) (bytes_eq name (codes "false")) (sym (h ∙ nat_list_eq_equiv.symm (codes "true") name)) (sym (k ∙ nat_list_eq_equiv.symm (codes "false") name))
   where
-    by-use : (u : Option Use) → plain_use p u w ≡ (plain_bound p u >>= bound_term p) w
+    by-use : (u : Option Use) → plain_use p u w ≡ (plain_found p u >>= found_term p) w
     by-use None = refl
     by-use (Some (Constant_of v s)) = refl
+    by-use (Some (names.Standing m)) = refl
     by-use (Some (Defined [] ss m)) = refl
     by-use (Some (Defined (v ∷ vs) ss m)) = refl
 
-    by-tests : (a b : Bool) → a ≡ false → b ≡ false → (if a then as_truth (make node.True p) else if b then as_truth (make node.False p) else plain_use p (look_up env name)) w ≡ (plain_bound p (look_up env name) >>= bound_term p) w
+    by-tests : (a b : Bool) → a ≡ false → b ≡ false → (if a then as_truth (make node.True p) else if b then as_truth (make node.False p) else plain_use p (look_up env name)) w ≡ (plain_found p (look_up env name) >>= found_term p) w
     by-tests true b e d = absurd cc
     by-tests false true e d = absurd cc
     by-tests false false e d = by-use (look_up env name)
