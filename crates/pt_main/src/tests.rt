@@ -12,6 +12,7 @@ mod bool_definitions;
 mod bool_quantifiers;
 mod bools;
 mod counting;
+mod division;
 mod drills;
 mod hostile;
 mod laws;
