@@ -78,8 +78,8 @@ const FURTHER_SCRIPTS: [(&str, &str, &str); 16] = [
     ),
     (
         "",
-        "(declare-const x Int)\n(assert (= (div x 9223372036854775807) 1))\n(assert (= (mod x 9223372036854775807) 0))\n(check-sat)\n(get-value (x))",
-        "sat\n((x 9223372036854775807))\n",
+        "(declare-const x Int)\n(assert (= (div x 1000) 1))\n(assert (= (mod x (- 1000)) 0))\n(check-sat)\n(get-value (x))",
+        "sat\n((x 1000))\n",
     ),
     (
         "",

@@ -3,7 +3,7 @@ use super::outline::{make_all, read_all, refuse_all};
 use std::test::Fail;
 
 /// Texts, each with the nodes that it makes behind node 0, in order.
-const NODES_OF_TERMS: [(&str, &str); 13] = [
+const NODES_OF_TERMS: [(&str, &str); 14] = [
     (
         "(declare-const x Int)\n(assert (= (div x 3) 2))",
         " 2:12 -1*v0 3*v1 <= 0 2:12 1*v0 -3*v1 <= 2 2:12 and(1,2) 2:9 1*v1 = 2 2:9 and(3,4) 2:9 exists(v1,5)",
@@ -15,6 +15,10 @@ const NODES_OF_TERMS: [(&str, &str); 13] = [
     (
         "(declare-const x Int)\n(assert (= (mod x 3) 1))",
         " 2:12 -1*v1 <= 0 2:12 1*v1 <= 2 2:12 and(1,2) 2:12 1*v0 -1*v1 = 0 mod 3 2:12 and(3,4) 2:9 1*v1 = 1 2:9 and(5,6) 2:9 exists(v1,7)",
+    ),
+    (
+        "(declare-const x Int)\n(assert (= (mod x 9223372036854775807) 0))",
+        " 2:12 -1*v1 <= 0 2:12 1*v1 <= 9223372036854775806 2:12 and(1,2) 2:12 1*v0 -1*v1 = 0 mod 9223372036854775807 2:12 and(3,4) 2:9 1*v1 = 0 2:9 and(5,6) 2:9 exists(v1,7)",
     ),
     (
         "(declare-const x Int)\n(assert (= (abs x) 3))",

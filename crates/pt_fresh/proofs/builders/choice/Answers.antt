@@ -15,5 +15,5 @@ returns-clause-definite c =
     let f = c.args.formula.now in
     let g = c.choice_nodes.new.formula in
     let r = c.requires in
-    ok-of _ (choice c.args.v c.args.c c.args.a.now c.args.b.now c.args.at) f g c.choice_nodes.result c.choice_nodes.ensures.makes
-    (λ i e. c.choices_are_definite.ensures.definite f g c.args.v c.args.c c.args.a.now c.args.b.now c.args.at i c.is_formula.ensures r.a.terms r.b.terms r.c r.other_c r.other_a r.other_b e)
+    λ other_c other_a other_b. ok-of _ (choice c.args.v c.args.c c.args.a.now c.args.b.now c.args.at) f g c.choice_nodes.result c.choice_nodes.ensures.makes
+    (λ i e. c.choices_are_definite.ensures.definite f g c.args.v c.args.c c.args.a.now c.args.b.now c.args.at i c.is_formula.ensures r.a.terms r.b.terms r.c other_c other_a other_b e)

@@ -19,5 +19,5 @@ pub returns-clause-definite : goal.returns-clause-definite
 returns-clause-definite c =
     let f = c.args.formula.now in
     let g = c.divide_nodes.new.formula in
-    ok-of _ (divide c.args.v c.args.a.now c.args.n c.args.at) f g c.divide_nodes.result (makes c)
-    (λ i e. c.quotients_are_definite.ensures.definite f g c.args.v c.args.a.now c.args.n c.args.at i c.is_formula.ensures c.requires.a.terms c.requires.n c.requires.other e)
+    λ other. ok-of _ (divide c.args.v c.args.a.now c.args.n c.args.at) f g c.divide_nodes.result (makes c)
+    (λ i e. c.quotients_are_definite.ensures.definite f g c.args.v c.args.a.now c.args.n c.args.at i c.is_formula.ensures c.requires.a.terms c.requires.n other e)

@@ -13,5 +13,5 @@ pub returns-clause-definite : goal.returns-clause-definite
 returns-clause-definite c =
     let f = c.args.formula.now in
     let g = c.magnitude_nodes.new.formula in
-    ok-of _ (magnitude c.args.v c.args.a.now c.args.at) f g c.magnitude_nodes.result c.magnitude_nodes.ensures.makes
-    (λ i e. c.magnitudes_are_definite.ensures.definite f g c.args.v c.args.a.now c.args.at i c.is_formula.ensures c.requires.a.terms c.requires.other e)
+    λ other. ok-of _ (magnitude c.args.v c.args.a.now c.args.at) f g c.magnitude_nodes.result c.magnitude_nodes.ensures.makes
+    (λ i e. c.magnitudes_are_definite.ensures.definite f g c.args.v c.args.a.now c.args.at i c.is_formula.ensures c.requires.a.terms other e)

@@ -19,5 +19,5 @@ pub returns-clause-definite : goal.returns-clause-definite
 returns-clause-definite c =
     let f = c.args.formula.now in
     let g = c.remainder_nodes.new.formula in
-    ok-of _ (remainder c.args.v c.args.a.now c.args.n c.args.at) f g c.remainder_nodes.result (makes c)
-    (λ i e. c.remainders_are_definite.ensures.definite f g c.args.v c.args.a.now c.args.n c.args.at i c.is_formula.ensures c.requires.a.terms c.requires.n c.requires.other e)
+    λ other. ok-of _ (remainder c.args.v c.args.a.now c.args.n c.args.at) f g c.remainder_nodes.result (makes c)
+    (λ i e. c.remainders_are_definite.ensures.definite f g c.args.v c.args.a.now c.args.n c.args.at i c.is_formula.ensures c.requires.a.terms c.requires.n other e)
