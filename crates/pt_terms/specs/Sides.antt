@@ -1,6 +1,7 @@
 -- Terms of sort Int: forms, some of whose variables stand for other terms by their definitions. The definitions beside a form are its side.
 use Rattle.std.specs.Prelude.{ℕ, nat_lt, ◌==◌, if◌then◌else◌, List, [], ◌∷◌, map}
 use Rattle.pt_formula.specs.declared.form.Form.{Form}
+use Rattle.pt_formula.specs.Forms.{IsIncreasing}
 use Rattle.pt_fresh.specs.declared.term.Term.{Term}
 use Rattle.pt_terms.specs.declared.meaning.Meaning.{Meaning}
 use Rattle.pt_terms.specs.declared.meaning.Meaning.TheVariants.{Int, Bool as Truth}
@@ -11,6 +12,9 @@ Definition = ℕ × ℕ
 
 abbrev pub Side : Type 0
 Side = List Definition
+
+abbrev pub AreIncreasing : Side → Type 0
+AreIncreasing side = IsIncreasing (map (λ x. x.0) side)
 
 -- a form alone
 abbrev pub plain : Form → Term

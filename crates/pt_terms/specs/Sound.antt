@@ -1,5 +1,5 @@
 -- What elaboration keeps, refusals included: variables are given out before they stand in a node, and meanings are in range.
-use Rattle.std.specs.Prelude.{ℕ, ◌<◌, ◌^◌, ◌≡◌, true, List, length, map}
+use Rattle.std.specs.Prelude.{ℕ, ◌<◌, ◌^◌, ◌≡◌, true, List, length}
 use Rattle.std.specs.List.{AllByRecursion}
 use Rattle.pt_formula.specs.declared.node.Node.{Node}
 use Rattle.pt_formula.specs.declared.node.Node.TheVariants as node
@@ -7,7 +7,6 @@ use Rattle.pt_formula.specs.declared.node.Position.{Position}
 use Rattle.pt_formula.specs.declared.form.Form.{Form}
 use Rattle.pt_formula.specs.Sums.{IsForm}
 use Rattle.pt_formula.specs.Forms as forms
-use Rattle.pt_formula.specs.Forms.{IsIncreasing}
 use Rattle.pt_fresh.specs.declared.term.Term.{Term}
 use Rattle.pt_formula.specs.Formulas.{node_at, variables_of, contains}
 use Rattle.pt_terms.specs.declared.meaning.Meaning.{Meaning}
@@ -18,7 +17,7 @@ use Rattle.pt_terms.specs.declared.meaning.Bound.{Bound}
 use Rattle.pt_terms.specs.declared.meaning.Bound.TheVariants.{Variable, Term}
 use Rattle.pt_terms.specs.Sorts.{HasSort, sort_of, HaveSorts, AreIntegers, AreSorted}
 use Rattle.pt_terms.specs.Elaboration.{Work}
-use Rattle.pt_terms.specs.Sides.{Definition, Side}
+use Rattle.pt_terms.specs.Sides.{Definition, Side, AreIncreasing}
 use Rattle.pt_grammar.specs.Words.{Name}
 use Rattle.pt_terms.specs.Names.{Use, Constant_of, Defined, Standing, Symbol}
 use Rattle.pt_terms.specs.Names.{Env}
@@ -43,7 +42,7 @@ IsFormOver given f = IsForm f × AreIntegers given f.terms
 
 -- increasing variables of sort Int, each with a node
 pub record IsSideIn (w : Work) (side : Side) : Type 0 where
-  pub variables : IsIncreasing (map (λ x. x.0) side)
+  pub variables : AreIncreasing side
   pub sorts : AllByRecursion (λ (x : Definition). HasSort w.given x.0 sort.Int) side
   pub nodes : AllByRecursion (λ (x : Definition). x.1 < length w.formula) side
 

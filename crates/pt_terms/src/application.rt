@@ -6,7 +6,7 @@ use crate::arithmetic::{Argument, copy_of_form, copy_of_term};
 use crate::elaborator::Elaborator;
 use crate::meaning::Meaning;
 use crate::refusals::refused;
-use crate::uniting::{Definition, united_sides};
+use crate::uniting::Definition;
 use pt_formula::{Form, Op, Position};
 use pt_fresh::{Side, Term};
 use pt_grammar::words::{Operator, Relation};
@@ -279,7 +279,7 @@ impl Elaborator {
                 let others = self.integers(alloc, rest)?;
                 let first = self.copied(alloc, &t.form)?;
                 let form = self.sum_all(alloc, at, first, others.as_slice())?;
-                let side = united_sides(alloc, t, others.as_slice())?;
+                let side = self.united_sides(alloc, t, others.as_slice())?;
                 Ok(beside(side, form))
             }
         }
@@ -301,7 +301,7 @@ impl Elaborator {
             [a] => {
                 let t = self.integer(a)?;
                 let form = self.scale(alloc, -1, &t.form, at)?;
-                let side = united_sides(alloc, t, &[])?;
+                let side = self.side_of(alloc, t)?;
                 Ok(beside(side, form))
             }
             [a, rest @ ..] => {
@@ -309,7 +309,7 @@ impl Elaborator {
                 let others = self.integers(alloc, rest)?;
                 let first = self.copied(alloc, &t.form)?;
                 let form = self.subtract_all(alloc, at, first, others.as_slice())?;
-                let side = united_sides(alloc, t, others.as_slice())?;
+                let side = self.united_sides(alloc, t, others.as_slice())?;
                 Ok(beside(side, form))
             }
         }
@@ -333,7 +333,7 @@ impl Elaborator {
                 let others = self.integers(alloc, rest)?;
                 let first = self.copied(alloc, &t.form)?;
                 let form = self.multiply_all(alloc, at, first, others.as_slice())?;
-                let side = united_sides(alloc, t, others.as_slice())?;
+                let side = self.united_sides(alloc, t, others.as_slice())?;
                 Ok(beside(side, form))
             }
         }

@@ -12,7 +12,7 @@ use crate::elaborator::Elaborator;
 use crate::meaning::{Meaning, Sort};
 use crate::refusals::refused;
 use crate::replacing::Replacement;
-use crate::uniting::{Definition, replaced_side};
+use crate::uniting::Definition;
 use pt_fresh::{Side, Term};
 use pt_syntax::{Position, ReadKind, ReadRefusal};
 use std::alloc::Global;
@@ -127,7 +127,7 @@ impl Elaborator {
         ensures range { IfOk result (IsTermIn self.new) }
         ensures grows { Grows self.old self.new }
     {
-        let side = replaced_side(alloc, replacements)?;
+        let side = self.replaced_side(alloc, replacements)?;
         let numbers = self.renumbered(alloc, t.side.as_slice())?;
         let roots = nodes_of(alloc, t.side.as_slice())?;
         let nodes = self.copy(
@@ -162,7 +162,7 @@ impl Elaborator {
         ensures range { IfOk result (λ j. j < length self.new.formula) }
         ensures grows { Grows self.old self.new }
     {
-        let side = replaced_side(alloc, replacements)?;
+        let side = self.replaced_side(alloc, replacements)?;
         let copies = self.copy(alloc, at, replacements, side.as_slice(), &[], &[i])?;
         Ok(copies[0])
     }

@@ -1,22 +1,14 @@
 // Terms that stand for quotients, remainders, absolute values and choices.
-ghost use Rattle.std.specs.Prelude.{◌≡◌, IfOk};
 
 use crate::arithmetic::{Argument, form_of_number, form_of_variable};
 use crate::elaborator::Elaborator;
 use crate::meaning::{Meaning, Sort};
 use crate::refusals::refused;
-use crate::uniting::{Definition, united};
+use crate::uniting::Definition;
 use pt_formula::{Form, Position};
 use pt_fresh::{Side, Term};
 use pt_syntax::{ReadKind, ReadRefusal};
 use std::alloc::Global;
-
-/// A copy of a side.
-fn copied(alloc: Global, side: &[Definition]) -> Result<Vec<Definition>, ReadRefusal>
-    ensures { IfOk result (λ v. v.items ≡ side.now) }
-{
-    Ok(Vec::from_slice(alloc, side)?)
-}
 
 impl Elaborator {
     ghost use Rattle.std.specs.Prelude.{◌≡◌, ◌≢◌, ◌<◌, [], ◌∷◌, ◌++◌, length, map, pos, IfOk, All};
@@ -46,15 +38,15 @@ impl Elaborator {
         &self,
         alloc: Global,
         at: Position,
-        side: &[Definition],
+        t: &Term,
         number: i128,
     ) -> Result<Term, ReadRefusal>
-        requires { IsSideIn self.now side.now }
-        ensures gives { Gives (λ u. u) result self.now self.now (form (constant_form number) at >>= λ f. give (beside side.now f)) }
+        requires { IsTermIn self.now t.now }
+        ensures gives { Gives (λ u. u) result self.now self.now (form (constant_form number) at >>= λ f. give (beside t.now.side f)) }
         ensures range { IfOk result (IsTermIn self.now) }
     {
         let form = self.constant(alloc, at, number)?;
-        let side = copied(alloc, side)?;
+        let side = self.side_of(alloc, t)?;
         Ok(Term {
             form,
             side: Side::new(side),
@@ -116,9 +108,9 @@ impl Elaborator {
     {
         if t.form.terms.as_slice().is_empty() {
             let number = i128::from(t.form.constant).div_euclid(i128::from(n));
-            return self.constant_beside(alloc, at, t.side.as_slice(), number);
+            return self.constant_beside(alloc, at, t, number);
         }
-        let side = copied(alloc, t.side.as_slice())?;
+        let side = self.side_of(alloc, t)?;
         let v = self.fresh(Sort::Int)?;
         let definition = self.define_quotient(alloc, v, &t.form, n, at)?;
         self.variable_beside(alloc, side, v, definition)
@@ -140,9 +132,9 @@ impl Elaborator {
     {
         if t.form.terms.as_slice().is_empty() {
             let number = i128::from(t.form.constant).rem_euclid(i128::from(n));
-            return self.constant_beside(alloc, at, t.side.as_slice(), number);
+            return self.constant_beside(alloc, at, t, number);
         }
-        let side = copied(alloc, t.side.as_slice())?;
+        let side = self.side_of(alloc, t)?;
         let v = self.fresh(Sort::Int)?;
         let definition = self.define_remainder(alloc, v, &t.form, n, at)?;
         self.variable_beside(alloc, side, v, definition)
@@ -157,9 +149,9 @@ impl Elaborator {
     {
         if t.form.terms.as_slice().is_empty() {
             let number = i128::from(t.form.constant.unsigned_abs());
-            return self.constant_beside(alloc, at, t.side.as_slice(), number);
+            return self.constant_beside(alloc, at, t, number);
         }
-        let side = copied(alloc, t.side.as_slice())?;
+        let side = self.side_of(alloc, t)?;
         let v = self.fresh(Sort::Int)?;
         let definition = self.define_magnitude(alloc, v, &t.form, at)?;
         self.variable_beside(alloc, side, v, definition)
@@ -181,7 +173,7 @@ impl Elaborator {
         ensures range { IfOk result (IsTermIn self.new) }
         ensures grows { Grows self.old self.new }
     {
-        let side = united(alloc, t.side.as_slice(), u.side.as_slice())?;
+        let side = self.united(alloc, t, u)?;
         let v = self.fresh(Sort::Int)?;
         let definition = self.define_choice(alloc, v, c, &t.form, &u.form, at)?;
         self.variable_beside(alloc, side, v, definition)

@@ -1,6 +1,5 @@
 // Relations of neighbours and of all pairs.
 use crate::elaborator::Elaborator;
-use crate::uniting::united;
 use pt_formula::{Op, Position};
 use pt_fresh::Term;
 use pt_grammar::words::Relation;
@@ -32,7 +31,7 @@ impl Elaborator {
         ensures range { IfOk result (λ i. i < length self.new.formula) }
         ensures grows { Grows self.old self.new }
     {
-        let side = united(alloc, a.side.as_slice(), b.side.as_slice())?;
+        let side = self.united(alloc, a, b)?;
         let i = self.compare_forms(alloc, relation, &a.form, &b.form, at)?;
         self.close(alloc, i, side.as_slice(), at)
     }

@@ -186,7 +186,7 @@ fn result(operation: &str, a: i64, b: i64) -> i64 {
 
 // The value of a body at a number.
 fn value(alloc: Global, body: &str, x: i64) -> Result<i64, Fail> {
-    let mut stack = Vec::new(alloc);
+    let mut stack: Vec<i64> = Vec::new(alloc);
     for word in body.split(' ') {
         let next = match word {
             "x" => x,
@@ -214,7 +214,7 @@ fn value(alloc: Global, body: &str, x: i64) -> Result<i64, Fail> {
 
 // A body as a term.
 fn term(alloc: Global, body: &str) -> Result<String, Fail> {
-    let mut stack = Vec::new(alloc);
+    let mut stack: Vec<String> = Vec::new(alloc);
     for word in body.split(' ') {
         let next = match word {
             "x" => String::from_str(alloc, "x")?,
