@@ -1,7 +1,7 @@
 -- The constants among the first of the live names.
 use Rattle.std.proofs.Common.{◌≡◌, ℕ, zero, suc, ◌+◌, List, [], ◌∷◌, ◌++◌, length, take, slice_get, Some, refl, ap, sym, ◌∙◌, length-append, arith}
 use Rattle.pt_terms.specs.declared.meaning.Constant.{Constant}
-use Rattle.pt_terms.specs.Names.{Symbol, Use, Constant_of, Defined, constant_in, constants_in}
+use Rattle.pt_terms.specs.Names.{Symbol, Use, Constant_of, Defined, Standing, constant_in, constants_in}
 use Rattle.pt_terms.specs.Symbols.{constant_count}
 
 -- the constants of a front are a front of the constants
@@ -11,6 +11,7 @@ constant-length s = by-use s.stands_for
     by-use : (u : Use) → length (constant_in s u) ≡ constant_count u
     by-use (Constant_of v t) = refl
     by-use (Defined ps ss m) = refl
+    by-use (Standing m) = refl
 
 take-join : {X : Type 0} (xs ys : List X) (m n : ℕ) → m ≡ length xs + n → take m (xs ++ ys) ≡ xs ++ take n ys
 take-join [] ys m n e = let same : m ≡ n = omega arith in ap (λ k. take k ys) same

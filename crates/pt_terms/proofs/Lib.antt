@@ -3,6 +3,7 @@ pub mod ConstantLemmas
 pub mod BelowLemmas
 pub mod SortLemmas
 pub mod ReplacedVariables
+pub mod SideUnions
 pub mod Ranges
 pub mod Chaining
 pub mod Steps

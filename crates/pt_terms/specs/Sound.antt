@@ -7,7 +7,7 @@ use Rattle.pt_formula.specs.declared.node.Position.{Position}
 use Rattle.pt_formula.specs.declared.form.Form.{Form}
 use Rattle.pt_formula.specs.Sums.{IsForm}
 use Rattle.pt_formula.specs.Forms as forms
-use Rattle.pt_fresh.specs.declared.term.Term.{Term}
+use Rattle.pt_fresh.specs.declared.term.Term.{Term as TermValue}
 use Rattle.pt_formula.specs.Formulas.{node_at, variables_of, contains}
 use Rattle.pt_terms.specs.declared.meaning.Meaning.{Meaning}
 use Rattle.pt_terms.specs.declared.meaning.Meaning.TheVariants.{Int, Bool as Truth}
@@ -46,7 +46,7 @@ pub record IsSideIn (w : Work) (side : Side) : Type 0 where
   pub sorts : AllByRecursion (λ (x : Definition). HasSort w.given x.0 sort.Int) side
   pub nodes : AllByRecursion (λ (x : Definition). x.1 < length w.formula) side
 
-abbrev pub IsTermIn : Work → Term → Type 0
+abbrev pub IsTermIn : Work → TermValue → Type 0
 IsTermIn w t = IsFormOver w.given t.form × IsSideIn w t.side
 
 -- a meaning is in the range of the work

@@ -22,7 +22,7 @@ use Rattle.pt_terms.specs.declared.meaning.Meaning.TheVariants.{Int, Bool as Tru
 use Rattle.pt_terms.specs.declared.meaning.Sort.{Sort}
 use Rattle.pt_terms.specs.declared.meaning.Sort.TheVariants as sort
 use Rattle.pt_terms.specs.Sorts.{same_sort, sort_of}
-use Rattle.pt_terms.specs.Sides.{Side, plain, beside, united, united_sides, forms_of, replaced_side}
+use Rattle.pt_terms.specs.Sides.{Side, beside, united, united_sides, forms_of, replaced_side, paired}
 use Rattle.pt_syntax.specs.declared.kinds.ReadKind.TheVariants.{Sort as WrongSort, Nonlinear, Coefficient, Unsupported}
 use Rattle.pt_grammar.specs.declared.words.Operator.{Operator}
 use Rattle.pt_grammar.specs.declared.words.Operator.TheVariants as symbol
@@ -150,11 +150,15 @@ defined p side definition = do
   d ← definition v
   give (beside (side ++ (v, d) ∷ []) (variable_form v))
 
+-- a number as a term, beside the side of the term that it is the value of
+abbrev pub number_beside : Position → Side → ℤ → Elab Term
+number_beside p side number = form (constant_form number) p >>= λ f. give (beside side f)
+
 -- the constant where there are no variables, else a variable that a node defines
 abbrev pub evaluated : Position → Term → ℤ → (ℕ → Elab ℕ) → Elab Term
 evaluated p t constant definition =
     if has_variables t.form then defined p t.side definition
-    else form (constant_form constant) p >>= λ f. give (beside t.side f)
+    else number_beside p t.side constant
 
 -- Euclid's division by a number that is not 0
 abbrev pub quotient : Position → ℤ → Term → Elab Term

@@ -13,8 +13,8 @@ use std::alloc::Global;
 impl Elaborator {
     ghost use Rattle.std.specs.Prelude.{◌≡◌, ◌≢◌, ◌<◌, [], ◌∷◌, ◌++◌, length, map, pos, IfOk, All};
     ghost use Rattle.std.specs.List.{AllByRecursion};
-    ghost use Rattle.pt_terms.specs.Elaboration.{give, ◌>>=◌, form, constant_form, variable_form};
-    ghost use Rattle.pt_terms.specs.Theory.{Argument, apply, divisor, quotient, quotients, divided, remainder, magnitude, chosen_term};
+    ghost use Rattle.pt_terms.specs.Elaboration.{give, form, constant_form, variable_form};
+    ghost use Rattle.pt_terms.specs.Theory.{Argument, apply, number_beside, divisor, quotient, quotients, divided, remainder, magnitude, chosen_term};
     ghost use Rattle.pt_grammar.specs.declared.words.Operator.TheVariants as symbol;
     ghost use Rattle.pt_terms.specs.Gives.{Gives, Grows};
     ghost use Rattle.pt_terms.specs.Sides.{beside, Definition as DefinitionValue};
@@ -42,7 +42,7 @@ impl Elaborator {
         number: i128,
     ) -> Result<Term, ReadRefusal>
         requires { IsTermIn self.now t.now }
-        ensures gives { Gives (λ u. u) result self.now self.now (form (constant_form number) at >>= λ f. give (beside t.now.side f)) }
+        ensures gives { Gives (λ u. u) result self.now self.now (number_beside at t.now.side number) }
         ensures range { IfOk result (IsTermIn self.now) }
     {
         let form = self.constant(alloc, at, number)?;
