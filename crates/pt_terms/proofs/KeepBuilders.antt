@@ -1,6 +1,7 @@
 -- Nodes that are made of terms keep the work sound.
-use Rattle.std.proofs.Common.{◌≡◌, inl, ℕ, ◌<◌, nat_lt, Bool, true, false, if◌then◌else◌, List, [], ◌∷◌, length, refl, sym, subst, arith}
+use Rattle.std.proofs.Common.{◌≡◌, ◌∙◌, inl, ℕ, zero, suc, ◌<◌, nat_lt, Bool, true, false, if◌then◌else◌, List, [], ◌∷◌, length, refl, sym, ap, subst, arith}
 use Rattle.std.specs.Prelude.{Ok, ℤ, pos, negsuc, neg_ℤ, ◌-ℤ◌, ◌^◌, unsigned_abs}
+use Rattle.std.proofs.lemmas.Bool.Decides.{nat_tests}
 use Rattle.std.specs.Int.{int_rem_euclid}
 use Rattle.std.specs.List.{AllByRecursion}
 use Rattle.pt_atoms.specs.Atoms.{IsModulus}
@@ -12,7 +13,7 @@ use Rattle.pt_formula.specs.declared.node.Position.{Position}
 use Rattle.pt_formula.specs.declared.form.Form.{Form}
 use Rattle.pt_formula.specs.Forms.{Monomial, AreTerms}
 use Rattle.pt_formula.specs.Sums.{fits, form_sum, form_difference, form_scale}
-use Rattle.pt_formula.specs.Formulas.{truth_node, contains, variables_of}
+use Rattle.pt_formula.specs.Formulas.{truth_node, contains, variables_of, IsFormula}
 use Rattle.pt_fresh.specs.declared.Relation.{Relation}
 use Rattle.pt_fresh.specs.declared.Relation.TheVariants as comparison
 use Rattle.pt_fresh.specs.declared.fault.TermFault.{TermFault}
@@ -21,8 +22,10 @@ use Rattle.pt_fresh.specs.Making as making_steps
 use Rattle.pt_fresh.specs.Making.{Make}
 use Rattle.pt_fresh.specs.Pairs as pairs
 use Rattle.pt_fresh.specs.Builders as builders
+use Rattle.pt_terms.specs.declared.meaning.Sort.{Sort}
 use Rattle.pt_terms.specs.declared.meaning.Sort.TheVariants as sort
-use Rattle.pt_terms.specs.Elaboration.{Work, Elab, make, make_exists, form, making, ◌>>=◌, constant_form, variable_form}
+use Rattle.pt_terms.specs.Sound.{IsKept}
+use Rattle.pt_terms.specs.Elaboration.{Work, Elab, make, make_exists, form, lifted, making, ◌>>=◌, constant_form, variable_form}
 use Rattle.pt_terms.specs.Gives.{Grows}
 use Rattle.pt_terms.specs.Sides.{Definition, Side}
 use Rattle.pt_terms.specs.Sorts.{HasSort, AreIntegers}
@@ -31,7 +34,7 @@ use Rattle.pt_terms.proofs.SortLemmas.{has-below, has-more, integers-more}
 use Rattle.pt_terms.proofs.Ranges.{form_more, node_more}
 use Rattle.pt_terms.proofs.KeepSteps.{keeps-give, keeps-then}
 use Rattle.pt_terms.proofs.KeepNodes.{Laws, IsNewNode, keeps-make, keeps-exists}
-use Rattle.pt_terms.proofs.KeepForms.{IsFormIn, keeps-form, keeps-scale, keeps-difference, variable-form-in, constant-form-in}
+use Rattle.pt_terms.proofs.KeepForms.{IsFormIn, keeps-scale, keeps-difference, variable-form-in, constant-form-in, number-fits}
 use Rattle.pt_terms.proofs.Lifting.{making-then, making-make, making-exists, making-form}
 
 -- a step that keeps the work sound, where it makes nodes of terms
@@ -87,11 +90,19 @@ keeps-compare laws p r a b w ha hb = by (pairs.is_upward r)
 pub keeps-divisible : Laws → (p : Position) (n : ℕ) (a : Form) (w : Work) → IsModulus (Mod n) → IsFormIn a w → KeepsMaking IsNodeIn p (pairs.divisible p n a) w
 keeps-divisible laws p n a w modulus h = keeps-atom laws p (Mod n) a.terms (int_rem_euclid (neg_ℤ a.constant) (pos n)) w h.0.terms h.1 modulus
 
+-- an operation that may be made of two nodes
+abbrev pub IsJoin : (ℕ → ℕ → Node) → Type 0
+IsJoin op = (w : Work) (a b : ℕ) → IsNodeIn a w → IsNodeIn b w → IsNewNode w (op a b)
+
 -- ---- sides
 
 -- definitions in the range of the work
 abbrev pub AreDefinitionsIn : Side → Work → Type 0
 AreDefinitionsIn side w = AllByRecursion (λ (x : Definition). HasSort w.given x.0 sort.Int × (x.1 < length w.formula)) side
+
+pub definitions-in : (side : Side) (w : Work) → AllByRecursion (λ (x : Definition). HasSort w.given x.0 sort.Int) side → AllByRecursion (λ (x : Definition). x.1 < length w.formula) side → AreDefinitionsIn side w
+definitions-in [] w h k = tt
+definitions-in (x ∷ side) w h k = ((h.0, k.0), definitions-in side w h.1 k.1)
 
 definitions-more : (side : Side) (v w : Work) → Grows v w → AreDefinitionsIn side v → AreDefinitionsIn side w
 definitions-more [] v w g h = tt
@@ -116,12 +127,53 @@ keeps-close laws p a (x ∷ side) w ha h =
 
 -- ---- definitions of variables
 
-zero-fits : fits (pos 0) ≡ true
-zero-fits = refl
+abbrev IsSize : ℤ → ℕ → Work → Type 0
+IsSize n m w = (m ≡ unsigned_abs n) × (m < 2 ^ 63)
 
-keeps-size : (p : Position) (n : ℤ) (w : Work) → KeepsMaking (λ (m : ℕ) u. (m ≡ unsigned_abs n) × (m < 2 ^ 63)) p (builders.size n) w
+keeps-size : (p : Position) (n : ℤ) (w : Work) → KeepsMaking (IsSize n) p (builders.size n) w
 keeps-size p n w sound w' x e = by (nat_lt (unsigned_abs n) (2 ^ 63)) refl e
   where
-    by : (t : Bool) → nat_lt (unsigned_abs n) (2 ^ 63) ≡ t → making p (if t then making_steps.give (unsigned_abs n) else making_steps.refuse term_fault.Coefficient) w ≡ Ok (x, w') → IsSoundWork w' × Grows w w' × (x ≡ unsigned_abs n) × (x < 2 ^ 63)
-    by true t k = keeps-give (λ (m : ℕ) u. (m ≡ unsigned_abs n) × (m < 2 ^ 63)) (unsigned_abs n) w (refl, grind (arith, Rattle.std.proofs.lemmas.Bool.Decides.nat_tests)) sound w' x k
+    by : (t : Bool) → nat_lt (unsigned_abs n) (2 ^ 63) ≡ t → making p (if t then making_steps.give (unsigned_abs n) else making_steps.refuse term_fault.Coefficient) w ≡ Ok (x, w') → IsSoundWork w' × Grows w w' × IsSize n x w'
+    by true t k = keeps-give (IsSize n) (unsigned_abs n) w (refl, grind (arith, nat_tests)) sound w' x k
     by false t k = absurd cc
+
+below-fits : (m : ℕ) → m < 2 ^ 63 → fits (pos m -ℤ pos 1) ≡ true
+below-fits zero lt = refl
+below-fits (suc k) lt = subst (λ z. fits z ≡ true) (sym less) (number-fits k (omega (arith, lt)))
+  where
+    less : pos (suc k) -ℤ pos 1 ≡ pos k
+    less = omega (arith, ints)
+
+-- two nodes, and their conjunction
+keeps-both : Laws → (p : Position) (op : ℕ → ℕ → Node) → IsJoin op → (first second : Make ℕ) (w : Work) → KeepsMaking IsNodeIn p first w → ((u : Work) → Grows w u → KeepsMaking IsNodeIn p second u)
+    → KeepsMaking IsNodeIn p (λ f. making_steps.follow (first f) (λ i g. making_steps.follow (second g) (λ j. making_steps.make (op i j) p))) w
+keeps-both laws p op joins first second w one two =
+    making-keeps IsNodeIn IsNodeIn p first (λ i g. making_steps.follow (second g) (λ j. making_steps.make (op i j) p)) w one
+    (λ i u g h. making-keeps IsNodeIn IsNodeIn p second (λ j. making_steps.make (op i j) p) u (two u g) (λ j v g' k. keeps-made laws p (op i j) v (joins v i j (node_more u v i g' h) k)))
+
+keeps-between : Laws → (p : Position) (x a : Form) (m : ℕ) (w : Work) → IsFormIn x w → IsFormIn a w → m < 2 ^ 63 → KeepsMaking IsNodeIn p (builders.between x a m p) w
+keeps-between laws p x a m w hx ha small =
+    making-keeps IsNodeIn IsNodeIn p (pairs.compare p comparison.AtMost x a) (λ low f. making_steps.follow (making_steps.form (form_difference a x) p f) (λ rest g. making_steps.follow (pairs.compare p comparison.AtMost rest (constant_form (pos m -ℤ pos 1)) g) (λ high. making_steps.make (node.And low high) p))) w
+    (keeps-compare laws p comparison.AtMost x a w hx ha)
+    (λ low u g h. making-keeps IsFormIn IsNodeIn p (making_steps.form (form_difference a x) p) (λ rest g. making_steps.follow (pairs.compare p comparison.AtMost rest (constant_form (pos m -ℤ pos 1)) g) (λ high. making_steps.make (node.And low high) p)) u
+    (same-form p (form_difference a x) u (keeps-difference a x p u (form_more w u a g ha) (form_more w u x g hx)))
+    (λ rest v g' k. making-keeps IsNodeIn IsNodeIn p (pairs.compare p comparison.AtMost rest (constant_form (pos m -ℤ pos 1))) (λ high. making_steps.make (node.And low high) p) v
+    (keeps-compare laws p comparison.AtMost rest (constant_form (pos m -ℤ pos 1)) v k (constant-form-in (pos m -ℤ pos 1) v (below-fits m small)))
+    (λ high t g2 d. keeps-made laws p (node.And low high) t (node_more v t low g2 (node_more u v low g' h), d))))
+
+pub keeps-divide : Laws → (p : Position) (v : ℕ) (a : Form) (n : ℤ) (w : Work) → HasSort w.given v sort.Int → IsFormIn a w → KeepsMaking IsNodeIn p (builders.divide v a n p) w
+keeps-divide laws p v a n w has h =
+    making-keeps (IsSize n) IsNodeIn p (builders.size n) (λ m f. making_steps.follow (making_steps.form (form_scale n (variable_form v)) p f) (λ multiple. builders.between multiple a m p)) w (keeps-size p n w)
+    (λ m u g size. making-keeps IsFormIn IsNodeIn p (making_steps.form (form_scale n (variable_form v)) p) (λ multiple. builders.between multiple a m p) u
+    (same-form p (form_scale n (variable_form v)) u (keeps-scale n (variable_form v) p u (variable-form-in v u (has-more w u v sort.Int g has))))
+    (λ multiple t g' k. keeps-between laws p multiple a m t k (form_more u t a g' (form_more w u a g h)) size.1))
+
+-- ---- what is kept
+
+-- a step that keeps the work sound keeps what is kept of the formula
+pub kept-step : {A : Type 0} (P : A → Work → Type 0) (p : Position) (m : Make A) (f g : making_steps.NodeList) (given : List Sort) (x : A) → KeepsMaking P p m (record { formula = f; given = given }) → IsFormula f → IsKept f given → m f ≡ Ok (x, g) → IsKept g given
+kept-step {A} P p m f g given x keeps whole kept e =
+    let sound : IsSoundWork (record { formula = f; given = given }) = record { formula = whole; below = kept.below; sorted = kept.sorted } in
+    let after : making p m (record { formula = f; given = given }) ≡ Ok (x, record { formula = g; given = given }) = ap (lifted given p) e in
+    let result = keeps sound (record { formula = g; given = given }) x after in
+    record { below = result.0.below; sorted = result.0.sorted; few = kept.few }

@@ -251,6 +251,8 @@ impl Elaborator {
         ensures range { IfOk result (λ i. i < length self.new.formula) }
         ensures grows { Grows self.old self.new }
     {
+        appended_nodes_change_no_earlier_one();
+        trees_are_made_of_those_of_the_children();
         self.formula.is_formula();
         let count = self.formula.len();
         let made = relation_atom(&mut self.formula, alloc, kind, terms, constant, at);
@@ -279,6 +281,8 @@ impl Elaborator {
         ensures range { IfOk result (λ i. i < length self.new.formula) }
         ensures grows { Grows self.old self.new }
     {
+        appended_nodes_change_no_earlier_one();
+        trees_are_made_of_those_of_the_children();
         self.formula.is_formula();
         let count = self.formula.len();
         let made = compare(&mut self.formula, alloc, relation, a, b, at);
@@ -307,6 +311,8 @@ impl Elaborator {
         ensures range { IfOk result (λ i. i < length self.new.formula) }
         ensures grows { Grows self.old self.new }
     {
+        appended_nodes_change_no_earlier_one();
+        trees_are_made_of_those_of_the_children();
         self.formula.is_formula();
         let count = self.formula.len();
         let made = divisible(&mut self.formula, alloc, n, a, at);
@@ -335,6 +341,8 @@ impl Elaborator {
         ensures range { IfOk result (λ i. i < length self.new.formula) }
         ensures grows { Grows self.old self.new }
     {
+        appended_nodes_change_no_earlier_one();
+        trees_are_made_of_those_of_the_children();
         self.formula.is_formula();
         let count = self.formula.len();
         let made = close(&mut self.formula, alloc, a, side, at);
@@ -364,6 +372,8 @@ impl Elaborator {
         ensures range { IfOk result (λ i. i < length self.new.formula) }
         ensures grows { Grows self.old self.new }
     {
+        appended_nodes_change_no_earlier_one();
+        trees_are_made_of_those_of_the_children();
         self.formula.is_formula();
         let count = self.formula.len();
         let made = divide(&mut self.formula, alloc, v, a, n, at);
@@ -393,6 +403,8 @@ impl Elaborator {
         ensures range { IfOk result (λ i. i < length self.new.formula) }
         ensures grows { Grows self.old self.new }
     {
+        appended_nodes_change_no_earlier_one();
+        trees_are_made_of_those_of_the_children();
         self.formula.is_formula();
         let count = self.formula.len();
         let made = remainder(&mut self.formula, alloc, v, a, n, at);
@@ -420,6 +432,8 @@ impl Elaborator {
         ensures range { IfOk result (λ i. i < length self.new.formula) }
         ensures grows { Grows self.old self.new }
     {
+        appended_nodes_change_no_earlier_one();
+        trees_are_made_of_those_of_the_children();
         self.formula.is_formula();
         let count = self.formula.len();
         let made = magnitude(&mut self.formula, alloc, v, a, at);
@@ -451,6 +465,8 @@ impl Elaborator {
         ensures range { IfOk result (λ i. i < length self.new.formula) }
         ensures grows { Grows self.old self.new }
     {
+        appended_nodes_change_no_earlier_one();
+        trees_are_made_of_those_of_the_children();
         self.formula.is_formula();
         let count = self.formula.len();
         let made = choice(&mut self.formula, alloc, v, c, a, b, at);
