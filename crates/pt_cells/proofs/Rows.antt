@@ -20,8 +20,10 @@ before (x ∷ front) back (suc i) h = before front back i (omega arith)
 
 -- what stands behind comes by as many places later
 behind : (front back : List ℕ) (i : ℕ) → slice_get (front ++ back) (length front + i) ≡ slice_get back i
-behind [] back i = refl
-behind (x ∷ front) back i = behind front back i
+behind [] back i = let e : 0 + i ≡ i = omega arith in ap (slice_get back) e
+behind (x ∷ front) back i =
+    let e : length (x ∷ front) + i ≡ suc (length front + i) = omega arith in
+    ap (slice_get (x ∷ (front ++ back))) e ∙ behind front back i
 
 -- the cell at a place of a row
 pub cell-row : (rows : List (List ℕ)) (i j : ℕ) → All (λ row. length row ≡ 16) rows → i < length rows → j < 16 → slice_get (concat rows) (i * 16 + j) ≡ slice_get (get_or rows i []) j

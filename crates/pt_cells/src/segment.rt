@@ -1,5 +1,5 @@
 // A segment of set-once cells.
-ghost use Rattle.std.specs.Prelude.{◌≡◌, ◌*◌, ◌<◌, IfOk, IfSome, Some, length, slice_get};
+ghost use Rattle.std.specs.Prelude.{◌≡◌, ◌*◌, ◌<◌, All, IfOk, IfSome, Some, length, slice_get};
 ghost use Rattle.once_cell.specs.Once.{cell_name};
 
 use once_cell::race::{Note, OnceBox};
@@ -20,14 +20,16 @@ impl Model for Row {
 
     ghost Value = { List ℕ };
 
-    ghost view = { λ r. map cell_name r.cells.items };
+    ghost view = { λ r. map cell_name r.cells };
 
-    ghost invariant = { λ r. length r.cells.items ≡ 16 };
+    ghost invariant = { λ r. length r.cells ≡ 16 };
 }
 
 impl Row {
     /// Cells that are empty. They are written out, so that a row takes a few stores.
-    fn new(alloc: Global) -> Row {
+    fn new(alloc: Global) -> Row
+        ensures { length result ≡ 16 }
+    {
         Row {
             cells: [
                 OnceBox::new(alloc),
@@ -66,7 +68,8 @@ pub(crate) struct Segment<const N: usize> {
 }
 
 impl<const N: usize> Model for Segment<N> {
-    ghost use Rattle.std.specs.Prelude.{◌≡◌, ℕ, List, All, concat, length, ◌×◌};
+    ghost use Rattle.std.specs.Prelude.{◌≡◌, ℕ, List, All, length};
+    ghost use Rattle.std.specs.List.{concat};
 
     ghost Value = { List ℕ };
 
@@ -75,11 +78,16 @@ impl<const N: usize> Model for Segment<N> {
     ghost invariant = { λ s. (length s.rows.items ≡ N) × All (λ row. length row ≡ 16) s.rows.items };
 }
 
-/// Rows of empty cells. They are collected, which writes them all in one go, and not pushed one by one.
+/// Rows of empty cells.
 fn empty_rows(alloc: Global, count: usize) -> Result<Vec<Row>, AllocError>
-    ensures { IfOk result (λ rows. length rows.items ≡ count) }
+    ensures count { IfOk result (λ rows. length rows.items ≡ count) }
+    ensures rows { IfOk result (λ rows. All (λ row. length row ≡ 16) rows.items) }
 {
-    (0..count).map(|_| Row::new(alloc)).collect(alloc)
+    let mut rows = Vec::with_capacity(alloc, count)?;
+    for _ in 0..count {
+        rows.push_reserved(Row::new(alloc));
+    }
+    Ok(rows)
 }
 
 impl<const N: usize> Segment<N> {

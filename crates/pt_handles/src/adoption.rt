@@ -104,10 +104,7 @@ fn adopt_parts<I: Interner>(
     ensures full { IfErr result (λ fault. (start : ℕ) → start < table.now.states → AreReached table.now start marks.now → FullOnlyWhereLacking I.Pass.home (I.limit_of store.now) (I.Pass.lists pass.new) table.now.tracks (SetOfState table.now start) fault) }
     ensures offers { I.Pass.offered pass.new ≤ I.Pass.offered pass.old + length parts.now }
 {
-    let mut targets = match vec![in alloc; Edge::Near(0); table.states() as usize] {
-        Ok(targets) => targets,
-        Err(_) => return Err(StoreFault::NoMemory),
-    };
+    let mut targets = vec![in alloc; Edge::Near(0); table.states() as usize]?;
     for i in 0..parts.len() {
         if let Err(fault) = adopt_part(alloc, store, pass, table, parts, marks, i, &mut targets) {
             return Err(fault);
@@ -145,18 +142,9 @@ fn adopt_part<I: Interner>(
         return Ok(());
     }
     number_part(targets, part);
-    let piece = match piece_of(alloc, pass, table, part, targets) {
-        Ok(piece) => piece,
-        Err(_) => return Err(StoreFault::NoMemory),
-    };
-    let coded = match least_code(alloc, &piece) {
-        Ok(coded) => coded,
-        Err(_) => return Err(StoreFault::NoMemory),
-    };
-    let code = match coded.code().clone() {
-        Ok(code) => code,
-        Err(_) => return Err(StoreFault::NoMemory),
-    };
+    let piece = piece_of(alloc, pass, table, part, targets)?;
+    let coded = least_code(alloc, &piece)?;
+    let code = coded.code().clone()?;
     let place = match store.intern(alloc, pass, code) {
         Ok(place) => place,
         Err(fault) => return Err(fault),

@@ -56,30 +56,30 @@ piece_of-requires-clause-codes g c =
 pub least_code-requires-clause-component : goal.least_code-requires-clause-component
 least_code-requires-clause-component g c =
     let work = begin c.args.table.now c.args.parts.now c.args.marks.now c.args.i c.index-parts-i.result c.as_slice-part.result.now c.is_automaton.ensures c.requires.reduced c.requires.parts c.requires.reached c.requires.part c.index-parts-i.is c.as_slice-part.ensures.value in
-    let piece : IsPieceOf (g.I.Pass.Codes.lists c.args.pass.now) c.args.table.now c.as_slice-part.result.now c.number_part.new.targets.items (component c.in-Ok.piece) =
-    subst (λ (ts : List Edge). IsPieceOf (g.I.Pass.Codes.lists c.args.pass.now) c.args.table.now c.as_slice-part.result.now ts (component c.in-Ok.piece)) c.deref.ensures.value c.in-Ok.ensures in
+    let piece : IsPieceOf (g.I.Pass.Codes.lists c.args.pass.now) c.args.table.now c.as_slice-part.result.now c.number_part.new.targets.items (component c.in_ok-piece.piece) =
+    subst (λ (ts : List Edge). IsPieceOf (g.I.Pass.Codes.lists c.args.pass.now) c.args.table.now c.as_slice-part.result.now ts (component c.in_ok-piece.piece)) c.deref.ensures.value c.in_ok-piece.ensures in
     (work-realizes work c.requires.placed c.if-not-marks-part.false c.number_part.ensures piece).component
 
 pub least_code-requires-clause-connected : goal.least_code-requires-clause-connected
 least_code-requires-clause-connected g c =
     let work = begin c.args.table.now c.args.parts.now c.args.marks.now c.args.i c.index-parts-i.result c.as_slice-part.result.now c.is_automaton.ensures c.requires.reduced c.requires.parts c.requires.reached c.requires.part c.index-parts-i.is c.as_slice-part.ensures.value in
-    let piece : IsPieceOf (g.I.Pass.Codes.lists c.args.pass.now) c.args.table.now c.as_slice-part.result.now c.number_part.new.targets.items (component c.in-Ok.piece) =
-    subst (λ (ts : List Edge). IsPieceOf (g.I.Pass.Codes.lists c.args.pass.now) c.args.table.now c.as_slice-part.result.now ts (component c.in-Ok.piece)) c.deref.ensures.value c.in-Ok.ensures in
+    let piece : IsPieceOf (g.I.Pass.Codes.lists c.args.pass.now) c.args.table.now c.as_slice-part.result.now c.number_part.new.targets.items (component c.in_ok-piece.piece) =
+    subst (λ (ts : List Edge). IsPieceOf (g.I.Pass.Codes.lists c.args.pass.now) c.args.table.now c.as_slice-part.result.now ts (component c.in_ok-piece.piece)) c.deref.ensures.value c.in_ok-piece.ensures in
     (work-realizes work c.requires.placed c.if-not-marks-part.false c.number_part.ensures piece).connected
 
-pub returns-in-Err-intern-clause-full : goal.returns-in-Err-intern-clause-full
-returns-in-Err-intern-clause-full g c =
+pub returns-in-Err-clause-full : goal.returns-in-Err-clause-full
+returns-in-Err-clause-full g c =
     let work = begin c.args.table.now c.args.parts.now c.args.marks.now c.args.i c.index-parts-i.result c.as_slice-part.result.now c.is_automaton.ensures c.requires.reduced c.requires.parts c.requires.reached c.requires.part c.index-parts-i.is c.as_slice-part.ensures.value in
-    let piece : IsPieceOf (g.I.Pass.Codes.lists c.args.pass.now) c.args.table.now c.as_slice-part.result.now c.number_part.new.targets.items (component c.in-Ok.piece) =
-    subst (λ (ts : List Edge). IsPieceOf (g.I.Pass.Codes.lists c.args.pass.now) c.args.table.now c.as_slice-part.result.now ts (component c.in-Ok.piece)) c.deref.ensures.value c.in-Ok.ensures in
-    let p = component c.in-Ok.piece in
+    let piece : IsPieceOf (g.I.Pass.Codes.lists c.args.pass.now) c.args.table.now c.as_slice-part.result.now c.number_part.new.targets.items (component c.in_ok-piece.piece) =
+    subst (λ (ts : List Edge). IsPieceOf (g.I.Pass.Codes.lists c.args.pass.now) c.args.table.now c.as_slice-part.result.now ts (component c.in_ok-piece.piece)) c.deref.ensures.value c.in_ok-piece.ensures in
+    let p = component c.in_ok-piece.piece in
     let old = g.I.Pass.Codes.lists c.args.pass.now in
     let new = g.I.Pass.Codes.lists c.intern.new.pass in
-    let same : arc_value c.in-Ok-clone.code ≡ c.in-Ok-least_code.coded.0 = c.in-Ok-clone.ensures.cases ∙ c.code.ensures in
-    let coding : IsCoding p (arc_value c.in-Ok-clone.code) c.in-Ok-least_code.coded.1 = subst (λ (code : List ℕ). IsCoding p code c.in-Ok-least_code.coded.1) (sym same) c.in-Ok-least_code.ensures in
-    let at_home : g.I.Pass.Codes.home (arc_value c.in-Ok-clone.code) (length new) < length new =
-    subst (λ (n : ℕ). g.I.Pass.Codes.home (arc_value c.in-Ok-clone.code) n < n) (sym c.intern.ensures.extends.shards) (g.met.I.Pass.Codes.has_home c.args.pass.now (arc_value c.in-Ok-clone.code) (g.met.I.Interner.some c.args.store.now c.args.pass.now c.requires.owned)) in
-    work-lacks work c.requires.placed c.if-not-marks-part.false c.number_part.ensures piece c.intern.ensures.extends coding (g.I.Interner.limit_of c.args.store.now) c.in-Err-intern.fault at_home c.in-Err-intern.ensures.err
+    let same : arc_value c.in_ok-code.code ≡ c.in_ok-coded.coded.0 = c.in_ok-code.ensures.cases ∙ c.code.ensures in
+    let coding : IsCoding p (arc_value c.in_ok-code.code) c.in_ok-coded.coded.1 = subst (λ (code : List ℕ). IsCoding p code c.in_ok-coded.coded.1) (sym same) c.in_ok-coded.ensures in
+    let at_home : g.I.Pass.Codes.home (arc_value c.in_ok-code.code) (length new) < length new =
+    subst (λ (n : ℕ). g.I.Pass.Codes.home (arc_value c.in_ok-code.code) n < n) (sym c.intern.ensures.extends.shards) (g.met.I.Pass.Codes.has_home c.args.pass.now (arc_value c.in_ok-code.code) (g.met.I.Interner.some c.args.store.now c.args.pass.now c.requires.owned)) in
+    work-lacks work c.requires.placed c.if-not-marks-part.false c.number_part.ensures piece c.intern.ensures.extends coding (g.I.Interner.limit_of c.args.store.now) c.in-Err.fault at_home c.in-Err.ensures.err
 
 pub place_part-requires-clause-part : goal.place_part-requires-clause-part
 place_part-requires-clause-part g c =
@@ -94,19 +94,19 @@ place_part-requires-clause-few g c =
 pub place_part-requires-clause-numbers : goal.place_part-requires-clause-numbers
 place_part-requires-clause-numbers g c =
     let work = begin c.args.table.now c.args.parts.now c.args.marks.now c.args.i c.index-parts-i.result c.as_slice-part.result.now c.is_automaton.ensures c.requires.reduced c.requires.parts c.requires.reached c.requires.part c.index-parts-i.is c.as_slice-part.ensures.value in
-    let piece : IsPieceOf (g.I.Pass.Codes.lists c.args.pass.now) c.args.table.now c.as_slice-part.result.now c.number_part.new.targets.items (component c.in-Ok.piece) =
-    subst (λ (ts : List Edge). IsPieceOf (g.I.Pass.Codes.lists c.args.pass.now) c.args.table.now c.as_slice-part.result.now ts (component c.in-Ok.piece)) c.deref.ensures.value c.in-Ok.ensures in
-    let (entry, in_range, is_from, numbers, first) = c.in-Ok-least_code.ensures.numbers in
-    ap (λ (ns : List ℕ). length ns) numbers ∙ length-map-range_with_len (λ q. position_or_len (◌==◌ q) (states_in_order (component c.in-Ok.piece) entry)) 0 c.in-Ok.piece.states ∙ piece.states
+    let piece : IsPieceOf (g.I.Pass.Codes.lists c.args.pass.now) c.args.table.now c.as_slice-part.result.now c.number_part.new.targets.items (component c.in_ok-piece.piece) =
+    subst (λ (ts : List Edge). IsPieceOf (g.I.Pass.Codes.lists c.args.pass.now) c.args.table.now c.as_slice-part.result.now ts (component c.in_ok-piece.piece)) c.deref.ensures.value c.in_ok-piece.ensures in
+    let (entry, in_range, is_from, numbers, first) = c.in_ok-coded.ensures.numbers in
+    ap (λ (ns : List ℕ). length ns) numbers ∙ length-map-range_with_len (λ q. position_or_len (◌==◌ q) (states_in_order (component c.in_ok-piece.piece) entry)) 0 c.in_ok-piece.piece.states ∙ piece.states
 
 pub returns-clause-ok : goal.returns-clause-ok
 returns-clause-ok g c =
     let work = begin c.args.table.now c.args.parts.now c.args.marks.now c.args.i c.index-parts-i.result c.as_slice-part.result.now c.is_automaton.ensures c.requires.reduced c.requires.parts c.requires.reached c.requires.part c.index-parts-i.is c.as_slice-part.ensures.value in
-    let piece : IsPieceOf (g.I.Pass.Codes.lists c.args.pass.now) c.args.table.now c.as_slice-part.result.now c.number_part.new.targets.items (component c.in-Ok.piece) =
-    subst (λ (ts : List Edge). IsPieceOf (g.I.Pass.Codes.lists c.args.pass.now) c.args.table.now c.as_slice-part.result.now ts (component c.in-Ok.piece)) c.deref.ensures.value c.in-Ok.ensures in
-    let p = component c.in-Ok.piece in
+    let piece : IsPieceOf (g.I.Pass.Codes.lists c.args.pass.now) c.args.table.now c.as_slice-part.result.now c.number_part.new.targets.items (component c.in_ok-piece.piece) =
+    subst (λ (ts : List Edge). IsPieceOf (g.I.Pass.Codes.lists c.args.pass.now) c.args.table.now c.as_slice-part.result.now ts (component c.in_ok-piece.piece)) c.deref.ensures.value c.in_ok-piece.ensures in
+    let p = component c.in_ok-piece.piece in
     let old = g.I.Pass.Codes.lists c.args.pass.now in
     let new = g.I.Pass.Codes.lists c.intern.new.pass in
-    let same : arc_value c.in-Ok-clone.code ≡ c.in-Ok-least_code.coded.0 = c.in-Ok-clone.ensures.cases ∙ c.code.ensures in
-    let coding : IsCoding p (arc_value c.in-Ok-clone.code) c.in-Ok-least_code.coded.1 = subst (λ (code : List ℕ). IsCoding p code c.in-Ok-least_code.coded.1) (sym same) c.in-Ok-least_code.ensures in
-    work-placed work c.requires.placed c.if-not-marks-part.false c.number_part.ensures piece c.intern.ensures.extends coding c.in-Ok-intern.place c.place_part.new.targets.items c.in-Ok-intern.ensures.ok c.place_part.ensures
+    let same : arc_value c.in_ok-code.code ≡ c.in_ok-coded.coded.0 = c.in_ok-code.ensures.cases ∙ c.code.ensures in
+    let coding : IsCoding p (arc_value c.in_ok-code.code) c.in_ok-coded.coded.1 = subst (λ (code : List ℕ). IsCoding p code c.in_ok-coded.coded.1) (sym same) c.in_ok-coded.ensures in
+    work-placed work c.requires.placed c.if-not-marks-part.false c.number_part.ensures piece c.intern.ensures.extends coding c.in-Ok.place c.place_part.new.targets.items c.in-Ok.ensures.ok c.place_part.ensures
