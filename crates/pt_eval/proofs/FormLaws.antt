@@ -20,29 +20,30 @@ use Rattle.pt_handles.specs.Laws.{LongerListsKnow}
 use Rattle.pt_memo.specs.declared.answer.Answer.{Answer}
 use Rattle.pt_eval.specs.declared.forms.Form.{Form}
 use Rattle.pt_eval.specs.contracts.forms.FormPartialEq.TheImpl as compared
-use Rattle.pt_eval.specs.Forms.{AreBuilt, IsBuilt}
+use Rattle.pt_eval.specs.Forms.{AreBuilt, IsBuilt, normal_of}
 
 -- answers that are right stay right
 pub built-longer : (law : LongerListsKnow) (home : Home) (old new : Lists) → Extends old new → (entries : List (Form × Answer Handle)) → AreBuilt home old entries → AreBuilt home new entries
 built-longer law home old new longer entries good f answer there =
     let is = good f answer there in
-    let t = length f.normal.coefficients in
+    let n = normal_of f in
+    let t = length n.coefficients in
     let h = answer.value in
     let after = law home old new h longer is.set.known in
     record {
       set = record {
         tracks = is.set.tracks;
         known = after.0;
-        set = SameSet-trans t (SetOfHandle new h) (SetOfHandle old h) (NormalSet f.normal) (subst (λ (n : ℕ). SameSet n (SetOfHandle new h) (SetOfHandle old h)) is.set.tracks after.1) is.set.set;
+        set = SameSet-trans t (SetOfHandle new h) (SetOfHandle old h) (NormalSet n) (subst (λ (k : ℕ). SameSet k (SetOfHandle new h) (SetOfHandle old h)) is.set.tracks after.1) is.set.set;
       };
       cost = is.cost;
     }
 
 -- and with a new one that is right all are
 pub built-more : (home : Home) (lists : Lists) (f : Form) (answer : Answer Handle) (before after : List (Form × Answer Handle)) →
-    ((e : Form × Answer Handle) → Contains after e → (e ≡ (f, answer)) ⊎ Contains before e) → AreBuilt home lists before → IsBuilt home lists f answer → AreBuilt home lists after
+    ((e : Form × Answer Handle) → Contains after e → (e ≡ (f, answer)) ⊎ Contains before e) → AreBuilt home lists before → IsBuilt home lists (normal_of f) answer → AreBuilt home lists after
 built-more home lists f answer before after cases good is d found there = elim (cases (d, found) there) [
-  | inl same ↦ subst (λ (e : Form × Answer Handle). IsBuilt home lists e.0 e.1) (sym same) is
+  | inl same ↦ subst (λ (e : Form × Answer Handle). IsBuilt home lists (normal_of e.0) e.1) (sym same) is
   | inr stood ↦ good d found stood
 ]
 
@@ -57,11 +58,11 @@ kinds_decide k l = (λ e. absurd (grind (arith, e)), λ e. absurd (grind (arith,
 -- the test of forms decides equality
 forms_decide : (f g : Form) → Decides (compared.ghosts.eq f g) (f ≡ g)
 forms_decide f g =
-    Decides-like _ (λ e. λ i. record { normal = record { kind = e.0.0 i; coefficients = e.0.1 i; constant = e.1 i } }) (λ e. ((ap (λ x. x.normal.kind) e, ap (λ x. x.normal.coefficients) e), ap (λ x. x.normal.constant) e))
-    (Decides-and _ _ (Decides-and _ _ (kinds_decide f.normal.kind g.normal.kind) (pointwise_decides Decides-int_eq f.normal.coefficients g.normal.coefficients)) (Decides-int_eq f.normal.constant g.normal.constant))
+    Decides-like _ (λ e. λ i. record { kind = e.0.0 i; coefficients = e.0.1 i; constant = e.1 i }) (λ e. ((ap (λ x. x.kind) e, ap (λ x. x.coefficients) e), ap (λ x. x.constant) e))
+    (Decides-and _ _ (Decides-and _ _ (kinds_decide f.kind g.kind) (pointwise_decides Decides-int_eq f.coefficients g.coefficients)) (Decides-int_eq f.constant g.constant))
 
 -- an answer that is found is right
-pub found-right : (home : Home) (lists : Lists) (f : Form) (entries : List (Form × Answer Handle)) (e : Form) (answer : Answer Handle) → compared.eq-value.it f e ≡ true → AreBuilt home lists entries → Contains entries (e, answer) → IsBuilt home lists f answer
+pub found-right : (home : Home) (lists : Lists) (f : Form) (entries : List (Form × Answer Handle)) (e : Form) (answer : Answer Handle) → compared.eq-value.it f e ≡ true → AreBuilt home lists entries → Contains entries (e, answer) → IsBuilt home lists (normal_of f) answer
 found-right home lists f entries e answer same good there =
     good f answer (subst (λ (d : Form). Contains entries (d, answer)) (sym ((forms_decide f e).0 same)) there)
 

@@ -25,21 +25,21 @@ fn build_form<I: Interner>(
     alloc: Global,
     store: &I,
     pass: &mut I::Pass,
-    form: &Form,
+    form: &Normal,
     bound: u32,
 ) -> Result<Answer<Handle>, OpFault>
     requires owned { I.owns store.now pass.old }
-    requires form { IsNormal form.now.normal }
+    requires form { IsNormal form.now }
     requires some { 0 < bound }
     requires few { bound ≤ 65536 }
     ensures kept { I.owns store.now pass.new }
     ensures extends { Extends (I.Pass.lists pass.old) (I.Pass.lists pass.new) }
     ensures ok { IfOk result (IsBuilt I.Pass.home (I.Pass.lists pass.new) form.now) }
-    ensures within { OnOk result (ResidualsWithin form.now.normal bound) }
-    ensures err { IfErr result (RefusesForm I.Pass.home (I.limit_of store.now) (I.Pass.lists pass.new) form.now.normal bound) }
+    ensures within { OnOk result (ResidualsWithin form.now bound) }
+    ensures err { IfErr result (RefusesForm I.Pass.home (I.limit_of store.now) (I.Pass.lists pass.new) form.now bound) }
     ensures offers { I.Pass.offered pass.new ≤ I.Pass.offered pass.old + bound }
 {
-    let table = match atom_table(alloc, &form.normal, bound) {
+    let table = match atom_table(alloc, form, bound) {
         Ok(table) => table,
         Err(AtomFault::States { bound: over }) => return Err(OpFault::States { bound: over }),
         Err(AtomFault::NoMemory) => return Err(OpFault::NoMemory),
@@ -58,34 +58,36 @@ fn form_solutions<I: Interner>(
     store: &I,
     pass: &mut I::Pass,
     memo: &mut AtomMemo,
-    form: Form,
+    normal: Normal,
     bound: u32,
 ) -> Result<Handle, OpFault>
     requires owned { I.owns store.now pass.old }
     requires good { AreBuilt I.Pass.home (I.Pass.lists pass.old) memo.old.entries }
-    requires form { IsNormal form.normal }
+    requires form { IsNormal normal }
     requires some { 0 < bound }
     requires few { bound ≤ 65536 }
     ensures kept { I.owns store.now pass.new }
     ensures extends { Extends (I.Pass.lists pass.old) (I.Pass.lists pass.new) }
     ensures good { AreBuilt I.Pass.home (I.Pass.lists pass.new) memo.new.entries }
-    ensures ok { IfOk result (Has I.Pass.home (I.Pass.lists pass.new) (length form.normal.coefficients) (NormalSet form.normal)) }
-    ensures within { OnOk result (ResidualsWithin form.normal bound) }
-    ensures err { IfErr result (RefusesForm I.Pass.home (I.limit_of store.now) (I.Pass.lists pass.new) form.normal bound) }
+    ensures ok { IfOk result (Has I.Pass.home (I.Pass.lists pass.new) (length normal.coefficients) (NormalSet normal)) }
+    ensures within { OnOk result (ResidualsWithin normal bound) }
+    ensures err { IfErr result (RefusesForm I.Pass.home (I.limit_of store.now) (I.Pass.lists pass.new) normal bound) }
     ensures offers { I.Pass.offered pass.new ≤ I.Pass.offered pass.old + bound }
 {
-    if let Some(answer) = memo.find(&form) {
+    let asked = Form::of(normal);
+    if let Some(answer) = memo.find(&asked) {
         return match answer.within(bound) {
             Some(handle) => Ok(handle),
             None => Err(OpFault::States { bound }),
         };
     }
     longer_lists_know();
-    let answer = match build_form(alloc, store, pass, &form, bound) {
+    let normal = asked.into_normal();
+    let answer = match build_form(alloc, store, pass, &normal, bound) {
         Ok(answer) => answer,
         Err(fault) => return Err(fault),
     };
-    match memo.keep(form, answer) {
+    match memo.keep(Form::of(normal), answer) {
         Ok(()) => Ok(answer.value),
         Err(_) => Err(OpFault::NoMemory),
     }
@@ -111,14 +113,12 @@ pub(crate) fn truth_solutions<I: Interner>(
     ensures err { IfErr result (RefusesHandle I.Pass.home (I.limit_of store.now) (I.Pass.lists pass.new) (truth_tree value) bound) }
     ensures offers { I.Pass.offered pass.new ≤ I.Pass.offered pass.old + bound }
 {
-    let form = Form {
-        normal: Normal {
-            kind: NormalKind::Always(value),
-            coefficients: Coefficients::new(Vec::new(alloc)),
-            constant: 0,
-        },
+    let normal = Normal {
+        kind: NormalKind::Always(value),
+        coefficients: Coefficients::new(Vec::new(alloc)),
+        constant: 0,
     };
-    form_solutions(alloc, store, pass, memo, form, bound)
+    form_solutions(alloc, store, pass, memo, normal, bound)
 }
 
 /// The coefficients of the terms.
@@ -165,5 +165,5 @@ pub(crate) fn atom_solutions<I: Interner>(
         constant,
     };
     let normal = normal(alloc, &atom)?;
-    form_solutions(alloc, store, pass, memo, Form { normal }, bound)
+    form_solutions(alloc, store, pass, memo, normal, bound)
 }
