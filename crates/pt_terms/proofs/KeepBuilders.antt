@@ -1,5 +1,6 @@
 -- Nodes that are made of terms keep the work sound.
-use Rattle.std.proofs.Common.{◌≡◌, ◌∙◌, inl, ℕ, zero, suc, ◌<◌, nat_lt, Bool, true, false, if◌then◌else◌, List, [], ◌∷◌, length, refl, sym, ap, subst, arith}
+use Rattle.std.proofs.Common.{◌≡◌, ◌≢◌, ◌∙◌, inl, ℕ, zero, suc, ◌<◌, nat_lt, Bool, true, false, if◌then◌else◌, List, [], ◌∷◌, length, refl, sym, ap, subst, arith}
+use Rattle.std.proofs.lemmas.Int.{ints}
 use Rattle.std.specs.Prelude.{Ok, ℤ, pos, negsuc, neg_ℤ, ◌-ℤ◌, ◌^◌, unsigned_abs}
 use Rattle.std.proofs.lemmas.Bool.Decides.{nat_tests}
 use Rattle.std.specs.Int.{int_rem_euclid}
@@ -144,7 +145,16 @@ below-fits (suc k) lt = subst (λ z. fits z ≡ true) (sym less) (number-fits k 
     less : pos (suc k) -ℤ pos 1 ≡ pos k
     less = omega (arith, ints)
 
--- two nodes, and their conjunction
+and-joins : IsJoin node.And
+and-joins w a b h k = (h, k)
+
+-- a number that is not 0 has a size that is not 0
+is-modulus : (n : ℤ) (m : ℕ) → n ≢ pos 0 → (m ≡ unsigned_abs n) × (m < 2 ^ 63) → IsModulus (Mod m)
+is-modulus (pos zero) m some h = absurd (some refl)
+is-modulus (pos (suc k)) m some h = (omega (arith, h.0), omega (arith, h.1))
+is-modulus (negsuc k) m some h = (omega (arith, h.0), omega (arith, h.1))
+
+-- two nodes, and what joins them
 keeps-both : Laws → (p : Position) (op : ℕ → ℕ → Node) → IsJoin op → (first second : Make ℕ) (w : Work) → KeepsMaking IsNodeIn p first w → ((u : Work) → Grows w u → KeepsMaking IsNodeIn p second u)
     → KeepsMaking IsNodeIn p (λ f. making_steps.follow (first f) (λ i g. making_steps.follow (second g) (λ j. making_steps.make (op i j) p))) w
 keeps-both laws p op joins first second w one two =
@@ -167,6 +177,54 @@ keeps-divide laws p v a n w has h =
     (λ m u g size. making-keeps IsFormIn IsNodeIn p (making_steps.form (form_scale n (variable_form v)) p) (λ multiple. builders.between multiple a m p) u
     (same-form p (form_scale n (variable_form v)) u (keeps-scale n (variable_form v) p u (variable-form-in v u (has-more w u v sort.Int g has))))
     (λ multiple t g' k. keeps-between laws p multiple a m t k (form_more u t a g' (form_more w u a g h)) size.1))
+
+keeps-range : Laws → (p : Position) (x : Form) (m : ℕ) (w : Work) → IsFormIn x w → m < 2 ^ 63 → KeepsMaking IsNodeIn p (builders.residue_range x m p) w
+keeps-range laws p x m w h small =
+    keeps-both laws p node.And and-joins (pairs.compare p comparison.AtMost (constant_form (pos 0)) x) (pairs.compare p comparison.AtMost x (constant_form (pos m -ℤ pos 1))) w
+    (keeps-compare laws p comparison.AtMost (constant_form (pos 0)) x w (constant-form-in (pos 0) w refl) h)
+    (λ u g. keeps-compare laws p comparison.AtMost x (constant_form (pos m -ℤ pos 1)) u (form_more w u x g h) (constant-form-in (pos m -ℤ pos 1) u (below-fits m small)))
+
+keeps-apart : Laws → (p : Position) (a x : Form) (m : ℕ) (w : Work) → IsFormIn a w → IsFormIn x w → IsModulus (Mod m) → KeepsMaking IsNodeIn p (builders.multiple_apart a x m p) w
+keeps-apart laws p a x m w ha hx modulus =
+    making-keeps IsFormIn IsNodeIn p (making_steps.form (form_difference a x) p) (pairs.divisible p m) w (same-form p (form_difference a x) w (keeps-difference a x p w ha hx)) (λ rest u g h. keeps-divisible laws p m rest u modulus h)
+
+pub keeps-remainder : Laws → (p : Position) (v : ℕ) (a : Form) (n : ℤ) (w : Work) → n ≢ pos 0 → HasSort w.given v sort.Int → IsFormIn a w → KeepsMaking IsNodeIn p (builders.remainder v a n p) w
+keeps-remainder laws p v a n w some has h =
+    making-keeps (IsSize n) IsNodeIn p (builders.size n) (λ m f. making_steps.follow (builders.residue_range (variable_form v) m p f) (λ range g. making_steps.follow (builders.multiple_apart a (variable_form v) m p g) (λ whole. making_steps.make (node.And range whole) p))) w (keeps-size p n w)
+    (λ m u g size. keeps-both laws p node.And and-joins (builders.residue_range (variable_form v) m p) (builders.multiple_apart a (variable_form v) m p) u
+    (keeps-range laws p (variable_form v) m u (variable-form-in v u (has-more w u v sort.Int g has)) size.1)
+    (λ t g'. keeps-apart laws p a (variable_form v) m t (form_more u t a g' (form_more w u a g h)) (variable-form-in v t (has-more u t v sort.Int g' (has-more w u v sort.Int g has))) (is-modulus n m some size)))
+
+keeps-opposite : Laws → (p : Position) (x a : Form) (w : Work) → IsFormIn x w → IsFormIn a w → KeepsMaking IsNodeIn p (builders.equal_or_opposite x a p) w
+keeps-opposite laws p x a w hx ha =
+    making-keeps IsNodeIn IsNodeIn p (pairs.compare p comparison.Equal x a) (λ same f. making_steps.follow (making_steps.form (form_scale (negsuc 0) a) p f) (λ negative g. making_steps.follow (pairs.compare p comparison.Equal x negative g) (λ opposite. making_steps.make (node.Or same opposite) p))) w
+    (keeps-compare laws p comparison.Equal x a w hx ha)
+    (λ same u g h. making-keeps IsFormIn IsNodeIn p (making_steps.form (form_scale (negsuc 0) a) p) (λ negative f. making_steps.follow (pairs.compare p comparison.Equal x negative f) (λ opposite. making_steps.make (node.Or same opposite) p)) u
+    (same-form p (form_scale (negsuc 0) a) u (keeps-scale (negsuc 0) a p u (form_more w u a g ha)))
+    (λ negative v g' k. making-keeps IsNodeIn IsNodeIn p (pairs.compare p comparison.Equal x negative) (λ opposite. making_steps.make (node.Or same opposite) p) v
+    (keeps-compare laws p comparison.Equal x negative v (form_more u v x g' (form_more w u x g hx)) k)
+    (λ opposite t g2 d. keeps-made laws p (node.Or same opposite) t (node_more v t same g2 (node_more u v same g' h), d))))
+
+pub keeps-magnitude : Laws → (p : Position) (v : ℕ) (a : Form) (w : Work) → HasSort w.given v sort.Int → IsFormIn a w → KeepsMaking IsNodeIn p (builders.magnitude v a p) w
+keeps-magnitude laws p v a w has h =
+    keeps-both laws p node.And and-joins (pairs.compare p comparison.AtMost (constant_form (pos 0)) (variable_form v)) (builders.equal_or_opposite (variable_form v) a p) w
+    (keeps-compare laws p comparison.AtMost (constant_form (pos 0)) (variable_form v) w (constant-form-in (pos 0) w refl) (variable-form-in v w has))
+    (λ u g. keeps-opposite laws p (variable_form v) a u (variable-form-in v u (has-more w u v sort.Int g has)) (form_more w u a g h))
+
+keeps-equal-where : Laws → (p : Position) (x : Form) (c : ℕ) (a : Form) (w : Work) → IsFormIn x w → IsNodeIn c w → IsFormIn a w → KeepsMaking IsNodeIn p (builders.equal_where x c a p) w
+keeps-equal-where laws p x c a w hx hc ha =
+    making-keeps IsNodeIn IsNodeIn p (pairs.compare p comparison.Equal x a) (λ i. making_steps.make (node.And c i) p) w (keeps-compare laws p comparison.Equal x a w hx ha)
+    (λ i u g k. keeps-made laws p (node.And c i) u (node_more w u c g hc, k))
+
+pub keeps-choice : Laws → (p : Position) (v c : ℕ) (a b : Form) (w : Work) → HasSort w.given v sort.Int → IsNodeIn c w → IsFormIn a w → IsFormIn b w → KeepsMaking IsNodeIn p (builders.choice v c a b p) w
+keeps-choice laws p v c a b w has hc ha hb =
+    making-keeps IsNodeIn IsNodeIn p (builders.equal_where (variable_form v) c a p) (λ left f. making_steps.follow (making_steps.make (node.Not c) p f) (λ other g. making_steps.follow (builders.equal_where (variable_form v) other b p g) (λ right. making_steps.make (node.Or left right) p))) w
+    (keeps-equal-where laws p (variable_form v) c a w (variable-form-in v w has) hc ha)
+    (λ left u g h. making-keeps IsNodeIn IsNodeIn p (making_steps.make (node.Not c) p) (λ other f. making_steps.follow (builders.equal_where (variable_form v) other b p f) (λ right. making_steps.make (node.Or left right) p)) u
+    (keeps-made laws p (node.Not c) u (node_more w u c g hc))
+    (λ other t g' k. making-keeps IsNodeIn IsNodeIn p (builders.equal_where (variable_form v) other b p) (λ right. making_steps.make (node.Or left right) p) t
+    (keeps-equal-where laws p (variable_form v) other b t (variable-form-in v t (has-more u t v sort.Int g' (has-more w u v sort.Int g has))) k (form_more u t b g' (form_more w u b g hb)))
+    (λ right r g2 d. keeps-made laws p (node.Or left right) r (node_more t r left g2 (node_more u t left g' h), d))))
 
 -- ---- what is kept
 

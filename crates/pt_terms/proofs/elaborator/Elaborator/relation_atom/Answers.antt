@@ -1,0 +1,18 @@
+use Rattle.std.proofs.Common.{◌<◌, ◌≢◌, ap, length, ℤ, subst, to_z, of_z, w64}
+use Rattle.std.specs.Prelude.{pos}
+use Rattle.pt_fresh.specs.Pairs as pairs
+use Rattle.pt_fresh.specs.Builders as builders
+use Rattle.pt_terms.specs.declared.meaning.Sort.TheVariants as sort
+use Rattle.pt_terms.specs.Sorts.{HasSort, AreIntegers}
+use Rattle.pt_terms.specs.Sound.{IsFormOver}
+use Rattle.pt_terms.specs.Keeps.{IsNodeIn}
+use Rattle.pt_terms.proofs.KeepNodes.{Laws}
+use Rattle.pt_terms.proofs.KeepBuilders as keeps
+use Rattle.pt_terms.proofs.KeepBuilders.{kept-step}
+use Rattle.pt_terms.proofs.elaborator.Elaborator.relation_atom.Goals as goal
+
+pub invariant_of-self : goal.invariant_of-self
+invariant_of-self c =
+    let laws : Laws = record { nodes = c.appended_nodes_change_no_earlier_one.ensures.node; trees = c.appended_nodes_change_no_earlier_one.ensures.tree; parts = c.trees_are_made_of_those_of_the_children.ensures } in
+    let ints : AreIntegers c.self.inside.sorts.items c.args.terms.now = rw (ap (λ w. w.given) c.self.view_is) c.requires.sorts in
+    kept-step IsNodeIn c.args.at (pairs.atom c.args.at c.args.kind c.args.terms.now c.args.constant) c.self.inside.formula c.relation_atom-made.new.formula c.self.inside.sorts.items c.in-Ok.id (keeps.keeps-atom laws c.args.at c.args.kind c.args.terms.now c.args.constant _ c.requires.terms ints c.requires.kind) c.is_formula.ensures c.self.invariant c.in-Ok.ensures.makes
