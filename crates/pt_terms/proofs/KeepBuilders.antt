@@ -1,6 +1,8 @@
 -- Nodes that are made of terms keep the work sound.
-use Rattle.std.proofs.Common.{◌≡◌, ◌≢◌, ◌∙◌, inl, ℕ, zero, suc, ◌<◌, nat_lt, Bool, true, false, if◌then◌else◌, List, [], ◌∷◌, length, refl, sym, ap, subst, arith}
+use Rattle.std.proofs.Common.{◌≡◌, ◌≢◌, ◌∙◌, inl, ℕ, zero, suc, ◌<◌, nat_lt, Bool, true, false, if◌then◌else◌, List, [], ◌∷◌, length, take, refl, sym, ap, subst, arith}
 use Rattle.std.proofs.lemmas.Int.{ints}
+use Rattle.std.proofs.Math.Seq.{take-append_seam}
+use Rattle.pt_terms.proofs.BelowLemmas.{grows_same}
 use Rattle.std.specs.Prelude.{Ok, ℤ, pos, negsuc, neg_ℤ, ◌-ℤ◌, ◌^◌, unsigned_abs}
 use Rattle.std.proofs.lemmas.Bool.Decides.{nat_tests}
 use Rattle.std.specs.Int.{int_rem_euclid}
@@ -21,6 +23,7 @@ use Rattle.pt_fresh.specs.declared.fault.TermFault.{TermFault}
 use Rattle.pt_fresh.specs.declared.fault.TermFault.TheVariants as term_fault
 use Rattle.pt_fresh.specs.Making as making_steps
 use Rattle.pt_fresh.specs.Making.{Make}
+use Rattle.pt_fresh.specs.Outcomes as Outcomes
 use Rattle.pt_fresh.specs.Pairs as pairs
 use Rattle.pt_fresh.specs.Builders as builders
 use Rattle.pt_terms.specs.declared.meaning.Sort.{Sort}
@@ -235,3 +238,9 @@ kept-step {A} P p m f g given x keeps whole kept e =
     let after : making p m (record { formula = f; given = given }) ≡ Ok (x, record { formula = g; given = given }) = ap (lifted given p) e in
     let result = keeps sound (record { formula = g; given = given }) x after in
     record { below = result.0.below; sorted = result.0.sorted; few = kept.few }
+
+-- nodes that are taken away again leave the work as it was
+pub cut-grows : (f g h : making_steps.NodeList) (given : List Sort) (count : ℕ) → count ≡ length f → Outcomes.Grows f g → h ≡ take count g → Grows (record { formula = f; given = given }) (record { formula = h; given = given })
+cut-grows f g h given count size grown cut =
+    let same : h ≡ f = cut ∙ ap (λ n. take n g) size ∙ ap (take (length f)) grown.nodes.1 ∙ take-append_seam f grown.nodes.0 in
+    subst (λ (n : making_steps.NodeList). Grows (record { formula = f; given = given }) (record { formula = n; given = given })) (sym same) (grows_same (record { formula = f; given = given }))

@@ -2,6 +2,7 @@
 ghost use Rattle.std.specs.Prelude.{◌≡◌};
 ghost use Rattle.pt_terms.specs.Sides.{beside};
 ghost use Rattle.pt_terms.specs.declared.meaning.Meaning.TheVariants.{Int};
+
 use crate::arithmetic::{Argument, copy_of_form, copy_of_term};
 use crate::elaborator::Elaborator;
 use crate::meaning::Meaning;

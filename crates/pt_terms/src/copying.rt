@@ -128,7 +128,14 @@ impl Elaborator {
                 match self.sort(v) {
                     Sort::Int => {
                         let zero = form_of_number(alloc, 0);
-                        let g = self.substituted(alloc, at, replacements, numbers, zero, terms.as_slice())?;
+                        let g = self.substituted(
+                            alloc,
+                            at,
+                            replacements,
+                            numbers,
+                            zero,
+                            terms.as_slice(),
+                        )?;
                         self.copy_atom(alloc, at, side, kind, constant, &g)
                     }
                     Sort::Bool => self.copy_truth(alloc, at, replacements, v),
@@ -249,7 +256,15 @@ impl Elaborator {
         self.formula().is_formula();
         let marks = self.marks(alloc, roots)?;
         let count = marks.len() as u32;
-        match self.copy_nodes(alloc, at, replacements, side, numbers, marks.as_slice(), count) {
+        match self.copy_nodes(
+            alloc,
+            at,
+            replacements,
+            side,
+            numbers,
+            marks.as_slice(),
+            count,
+        ) {
             Ok(copies) => self.copies_of(alloc, copies.as_slice(), roots),
             Err(refusal) => return Err(refusal),
         }

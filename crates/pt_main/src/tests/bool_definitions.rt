@@ -234,8 +234,8 @@ const REFUSED: [(&str, &str, &str); 32] = [
     ),
     (
         "",
-        "(declare-const p Bool)\n(assert (= 1 (ite p 1 2)))",
-        "(error \"2:14: unsupported\")\n",
+        "(declare-const p Bool)\n(assert (= 1 (ite p 1 false)))",
+        "(error \"2:23: sort or number of arguments\")\n",
     ),
     (
         "",

@@ -115,12 +115,30 @@ fn definitions_of_terms_of_division(rt: HostRuntime) -> Result<(), Fail> {
 
 /// Texts, each with the refusal that ends it.
 const REFUSALS: [(&str, &str); 27] = [
-    ("(declare-const x Int)\n(assert (= (div x 0) 1))", " Unsupported 2:12"),
-    ("(declare-const x Int)\n(assert (= (mod x 0) 1))", " Unsupported 2:12"),
-    ("(declare-const x Int)\n(assert (= (div 4 x) 1))", " Nonlinear 2:12"),
-    ("(declare-const x Int)\n(assert (= (mod 4 x) 1))", " Nonlinear 2:12"),
-    ("(declare-const x Int)\n(assert (= (div x 0 x) 1))", " Unsupported 2:12"),
-    ("(declare-const x Int)\n(assert (= (div x x 0) 1))", " Nonlinear 2:12"),
+    (
+        "(declare-const x Int)\n(assert (= (div x 0) 1))",
+        " Unsupported 2:12",
+    ),
+    (
+        "(declare-const x Int)\n(assert (= (mod x 0) 1))",
+        " Unsupported 2:12",
+    ),
+    (
+        "(declare-const x Int)\n(assert (= (div 4 x) 1))",
+        " Nonlinear 2:12",
+    ),
+    (
+        "(declare-const x Int)\n(assert (= (mod 4 x) 1))",
+        " Nonlinear 2:12",
+    ),
+    (
+        "(declare-const x Int)\n(assert (= (div x 0 x) 1))",
+        " Unsupported 2:12",
+    ),
+    (
+        "(declare-const x Int)\n(assert (= (div x x 0) 1))",
+        " Nonlinear 2:12",
+    ),
     ("(assert (= (div 1) 1))", " Sort 1:12"),
     ("(assert (= (mod 1) 1))", " Sort 1:12"),
     ("(assert (= (mod 1 2 3) 1))", " Sort 1:12"),

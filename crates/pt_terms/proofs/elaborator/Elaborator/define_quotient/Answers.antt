@@ -1,5 +1,6 @@
 use Rattle.std.proofs.Common.{◌<◌, ◌≢◌, ap, length, ℤ, subst, to_z, of_z, w64}
-use Rattle.std.specs.Prelude.{pos}
+use Rattle.std.specs.Prelude.{◌≡◌, Ok, pos}
+use Rattle.std.proofs.lemmas.Int.{to_z-of_z}
 use Rattle.pt_fresh.specs.Pairs as pairs
 use Rattle.pt_fresh.specs.Builders as builders
 use Rattle.pt_terms.specs.declared.meaning.Sort.TheVariants as sort
@@ -8,7 +9,7 @@ use Rattle.pt_terms.specs.Sound.{IsFormOver}
 use Rattle.pt_terms.specs.Keeps.{IsNodeIn}
 use Rattle.pt_terms.proofs.KeepNodes.{Laws}
 use Rattle.pt_terms.proofs.KeepBuilders as keeps
-use Rattle.pt_terms.proofs.KeepBuilders.{kept-step}
+use Rattle.pt_terms.proofs.KeepBuilders.{kept-step, cut-grows}
 use Rattle.pt_terms.proofs.elaborator.Elaborator.define_quotient.Goals as goal
 
 pub invariant_of-self : goal.invariant_of-self
@@ -16,4 +17,7 @@ invariant_of-self c =
     let laws : Laws = record { nodes = c.appended_nodes_change_no_earlier_one.ensures.node; trees = c.appended_nodes_change_no_earlier_one.ensures.tree; parts = c.trees_are_made_of_those_of_the_children.ensures } in
     let has : HasSort c.self.inside.sorts.items c.args.v sort.Int = rw (ap (λ w. w.given) c.self.view_is) c.requires.v in
     let a : IsFormOver c.self.inside.sorts.items c.args.a.now = rw (ap (λ w. w.given) c.self.view_is) c.requires.a in
-    kept-step IsNodeIn c.args.at (builders.divide c.args.v c.args.a.now c.args.n c.args.at) c.self.inside.formula c.divide-made.new.formula c.self.inside.sorts.items c.in-Ok.id (keeps.keeps-divide laws c.args.at c.args.v c.args.a.now c.args.n _ has a) c.is_formula.ensures c.self.invariant c.in-Ok.ensures.makes
+    kept-step IsNodeIn c.args.at (builders.divide c.args.v c.args.a.now c.args.n c.args.at) c.self.inside.formula c.divide-made.new.formula c.self.inside.sorts.items c.in-Ok.id (keeps.keeps-divide laws c.args.at c.args.v c.args.a.now c.args.n _ has a) c.is_formula.ensures c.self.invariant (subst (λ (n : ℤ). builders.divide c.args.v c.args.a.now n c.args.at c.self.inside.formula ≡ Ok (c.in-Ok.id, c.divide-made.new.formula)) (to_z-of_z w64 c.args.n c.ranges.n) c.in-Ok.ensures.makes)
+
+pub returns-in-Err-clause-grows : goal.returns-in-Err-clause-grows
+returns-in-Err-clause-grows c = rw (← c.self.view_is) (cut-grows c.self.inside.formula c.divide-made.new.formula c.truncate.new.self c.self.inside.sorts.items c.len-count.result c.len-count.ensures.count c.in-Err.ensures.grows c.truncate.ensures)
