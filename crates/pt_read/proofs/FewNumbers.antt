@@ -47,7 +47,7 @@ use Rattle.pt_read.specs.Numbers.{numbers_in}
 
 -- ---- steps
 
-adds-give : {A : Type 0} (n : ℕ) (a : A) → AddsAtMost n (give a)
+pub adds-give : {A : Type 0} (n : ℕ) (a : A) → AddsAtMost n (give a)
 adds-give {A} n a w w' x e =
     let pair : (a, w) ≡ (x, w') = cc in
     let same : length w.given ≡ length w'.given = ap (λ (q : A × Work). length q.1.given) pair in
@@ -56,7 +56,7 @@ adds-give {A} n a w w' x e =
 adds-refuse : {A : Type 0} (n : ℕ) (kind : ReadKind) (p : Position) → AddsAtMost {A = A} n (refuse kind p)
 adds-refuse {A} n kind p w w' x e = absurd cc
 
-adds-then : {A B : Type 0} (i j : ℕ) (m : Elab A) (f : A → Elab B) → AddsAtMost i m → ((x : A) → AddsAtMost j (f x)) → AddsAtMost (i + j) (m >>= f)
+pub adds-then : {A B : Type 0} (i j : ℕ) (m : Elab A) (f : A → Elab B) → AddsAtMost i m → ((x : A) → AddsAtMost j (f x)) → AddsAtMost (i + j) (m >>= f)
 adds-then {A} {B} i j m f first second w w'' y e = through (m w) refl e
   where
     through : (r : Result (A × Work) ReadRefusal) → m w ≡ r → follow r f ≡ Ok (y, w'') → length w''.given ≤ length w.given + (i + j)
@@ -66,7 +66,7 @@ adds-then {A} {B} i j m f first second w w'' y e = through (m w) refl e
 adds-on : {A B : Type 0} (j : ℕ) (m : Elab A) (f : A → Elab B) → AddsAtMost 0 m → ((x : A) → AddsAtMost j (f x)) → AddsAtMost j (m >>= f)
 adds-on j m f first second w w'' y e = let sum : length w''.given ≤ length w.given + (0 + j) = adds-then 0 j m f first second w w'' y e in omega (arith, sum)
 
-adds-more : {A : Type 0} (i j : ℕ) (m : Elab A) → i ≤ j → AddsAtMost i m → AddsAtMost j m
+pub adds-more : {A : Type 0} (i j : ℕ) (m : Elab A) → i ≤ j → AddsAtMost i m → AddsAtMost j m
 adds-more i j m le h w w' x e = omega (arith, le, h w w' x e)
 
 -- what adds none adds no more than any number
@@ -110,7 +110,7 @@ some-layer : (size : SExpr → ℕ) (l : SExpr-F SExpr) → 1 ≤ layer_size siz
 some-layer size (layer.Leaf leaf p) = let is : 1 ≤ 1 = omega arith in is
 some-layer size (layer.List items p) = let is : 1 ≤ 1 + sum_by size items = omega arith in is
 
-some-size : (n : ℕ) (e : SExpr) → 1 ≤ size_within n e
+pub some-size : (n : ℕ) (e : SExpr) → 1 ≤ size_within n e
 some-size zero e = let is : 1 ≤ 1 = omega arith in is
 some-size (suc n) e = some-layer (size_within n) (out-SExpr e)
 
@@ -118,10 +118,10 @@ items-within-layer : (size : SExpr → ℕ) (l : SExpr-F SExpr) → sum_by size 
 items-within-layer size (layer.Leaf leaf p) = let is : 0 ≤ 1 = omega arith in is
 items-within-layer size (layer.List items p) = let is : sum_by size items ≤ 1 + sum_by size items = omega arith in is
 
-items-within : (n : ℕ) (e : SExpr) → sum_by (size_within n) (items_or_none (items_of e)) ≤ size_within (suc n) e
+pub items-within : (n : ℕ) (e : SExpr) → sum_by (size_within n) (items_or_none (items_of e)) ≤ size_within (suc n) e
 items-within n e = items-within-layer (size_within n) (out-SExpr e)
 
-first-of : (n : ℕ) (e : SExpr) (more : List SExpr) → size_within n e ≤ sum_by (size_within n) (e ∷ more)
+pub first-of : (n : ℕ) (e : SExpr) (more : List SExpr) → size_within n e ≤ sum_by (size_within n) (e ∷ more)
 first-of n e more = omega (arith, sum_by-cons (size_within n) e more)
 
 -- ---- parts of commands
@@ -188,7 +188,7 @@ adds-bindable taken s =
     adds-on 0 (require (not (is_reserved (name_of (symbol_of s)) || is_among (name_of (symbol_of s)) taken)) Redeclared (place_of s)) (λ _. give (name_of (symbol_of s)))
     (adds-require 0 (not (is_reserved (name_of (symbol_of s)) || is_among (name_of (symbol_of s)) taken)) Redeclared (place_of s)) (λ _. adds-give 0 (name_of (symbol_of s)))
 
-adds-variable : (taken : List Name) (e : SExpr) → AddsAtMost 1 (Terms.variable taken e)
+pub adds-variable : (taken : List Name) (e : SExpr) → AddsAtMost 1 (Terms.variable taken e)
 adds-variable taken e =
     adds-with-pair 1 (items_of e) (place_of e) (λ s x. Terms.bindable taken s >>= λ name. Terms.named_sort x >>= λ t. fresh t >>= λ v. give (name, v, t))
     (λ s x. adds-on 1 (Terms.bindable taken s) (λ name. Terms.named_sort x >>= λ t. fresh t >>= λ v. give (name, v, t)) (adds-bindable taken s)

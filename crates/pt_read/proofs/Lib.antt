@@ -17,3 +17,4 @@ pub mod ReadingLaws
 pub mod FewNumbers
 pub mod Keeping
 pub mod Total
+pub mod Room

@@ -8,6 +8,8 @@ ghost use Rattle.pt_read.specs.Commands.{understood, by_row, named, list_command
 ghost use Rattle.pt_read.specs.Scope.{State};
 ghost use Rattle.pt_terms.specs.Environment.{outermost};
 ghost use Rattle.pt_terms.specs.Gives.{Says, Gives, Grows};
+ghost use Rattle.pt_terms.specs.Numbers.{HasNumbers};
+ghost use Rattle.pt_read.specs.Numbers.{numbers_in_items};
 ghost use Rattle.pt_terms.specs.Sound.{IsEnvIn};
 ghost use Rattle.pt_grammar.specs.Verbs.{shown_row, least_items};
 
@@ -127,6 +129,7 @@ fn understood(
 ) -> Result<CommandKind, ReadRefusal>
     requires state { IsStateIn work.old context.now }
     requires some { least_items verb ≤ length items.now }
+    requires room { HasNumbers work.old (numbers_in_items items.now) }
     ensures gives { Gives (λ k. k) result work.old work.new (understood context.now at verb items.now) }
     ensures range { IfOk result (IsKindIn work.new) }
     ensures grows { Grows work.old work.new }
@@ -168,6 +171,7 @@ fn row_command(
 ) -> Result<CommandKind, ReadRefusal>
     requires state { IsStateIn work.old context.now }
     requires row { length row.forms.now ≡ least_items row.verb }
+    requires room { HasNumbers work.old (numbers_in_items items.now) }
     ensures gives { (q : PositionValue) → Gives (λ k. k) result work.old work.new (by_row context.now at q (Some (shown_row row)) items.now) }
     ensures range { IfOk result (IsKindIn work.new) }
     ensures grows { Grows work.old work.new }
@@ -188,7 +192,8 @@ fn command_named(
     name: &[u8],
     items: &[SExpr],
 ) -> Result<CommandKind, ReadRefusal>
-    requires { IsStateIn work.old context.now }
+    requires state { IsStateIn work.old context.now }
+    requires room { HasNumbers work.old (numbers_in_items items.now) }
     ensures gives { Gives (λ k. k) result work.old work.new (named context.now at name_at (Some name.now) items.now) }
     ensures range { IfOk result (IsKindIn work.new) }
     ensures grows { Grows work.old work.new }
@@ -207,7 +212,8 @@ fn list_command(
     at: Position,
     items: &[SExpr],
 ) -> Result<CommandKind, ReadRefusal>
-    requires { IsStateIn work.old context.now }
+    requires state { IsStateIn work.old context.now }
+    requires room { HasNumbers work.old (numbers_in_items items.now) }
     ensures gives { Gives (λ k. k) result work.old work.new (list_command context.now at items.now) }
     ensures range { IfOk result (IsKindIn work.new) }
     ensures grows { Grows work.old work.new }
@@ -229,7 +235,8 @@ fn command(
     at: Position,
     items: &[SExpr],
 ) -> Result<Command, ReadRefusal>
-    requires { IsStateIn work.old context.now }
+    requires state { IsStateIn work.old context.now }
+    requires room { HasNumbers work.old (numbers_in_items items.now) }
     ensures gives { Gives (λ c. c) result work.old work.new (commanded context.now at items.now) }
     ensures range { IfOk result (λ c. IsKindIn work.new c.kind) }
     ensures grows { Grows work.old work.new }
@@ -253,6 +260,7 @@ pub(crate) fn elaborate(
 ) -> Result<Command, ReadRefusal>
     requires names { IsEnvIn work.old (outermost symbols.now) }
     requires last { IfSome last (λ c. c < length work.old.formula) }
+    requires room { HasNumbers work.old (numbers_in_items items.now) }
     ensures gives { (s : State) → Stands s symbols.now last → Gives (λ c. c) result work.old work.new (commanded s at items.now) }
     ensures range { IfOk result (λ c. IsKindIn work.new c.kind) }
     ensures grows { Grows work.old work.new }

@@ -1,6 +1,6 @@
 // Declarations, definitions and assertions.
 ghost use Rattle.pt_base.specs.declared.Position.{Position as PositionValue};
-ghost use Rattle.std.specs.Prelude.{◌≤◌, ◌≡◌, ◌∷◌, IfErr, OnOk, ◌<◌, [], length, map, IfOk};
+ghost use Rattle.std.specs.Prelude.{◌≤◌, ◌+◌, ◌≡◌, ◌∷◌, IfErr, OnOk, ◌<◌, [], length, map, IfOk};
 ghost use Rattle.pt_syntax.specs.Rest.{no_memory as no_memory_refusal};
 ghost use Rattle.pt_terms.specs.Terms.{term, variable};
 ghost use Rattle.std.specs.List.{AllByRecursion};
@@ -13,6 +13,8 @@ ghost use Rattle.pt_terms.specs.Sorts.{HasSort};
 ghost use Rattle.pt_terms.specs.Sound.{IsMeaningIn, IsBoundIn};
 ghost use Rattle.pt_read.specs.Context.{IsStateIn, IsKindIn, declared_function};
 ghost use Rattle.pt_terms.specs.Gives.{Gives, Grows};
+ghost use Rattle.pt_terms.specs.Numbers.{HasNumbers, whole_size};
+ghost use Rattle.pt_read.specs.Numbers.{numbers_in_items};
 
 use crate::command::{CommandKind, Definition};
 use crate::context::Context;
@@ -41,6 +43,7 @@ fn declared(
     name: &SExpr,
     sort: &SExpr,
 ) -> Result<CommandKind, ReadRefusal>
+    requires { HasNumbers work.old 1 }
     ensures gives { Gives (λ k. k) result work.old work.new (declared context.now name.now sort.now) }
     ensures range { IfOk result (IsKindIn work.new) }
     ensures grows { Grows work.old work.new }
@@ -65,6 +68,7 @@ pub(crate) fn declare_const(
 ) -> Result<CommandKind, ReadRefusal>
     requires state { IsStateIn work.old context.now }
     requires some { 2 ≤ length items.now }
+    requires room { HasNumbers work.old (numbers_in_items items.now) }
     ensures gives { (p : PositionValue) → Gives (λ k. k) result work.old work.new (understood context.now p verb.DeclareConst items.now) }
     ensures range { IfOk result (IsKindIn work.new) }
     ensures grows { Grows work.old work.new }
@@ -84,6 +88,7 @@ fn declared_function(
     sorts: &SExpr,
     sort: &SExpr,
 ) -> Result<CommandKind, ReadRefusal>
+    requires { HasNumbers work.old 1 }
     ensures gives { Gives (λ k. k) result work.old work.new (declared_function context.now name.now sorts.now sort.now) }
     ensures range { IfOk result (IsKindIn work.new) }
     ensures grows { Grows work.old work.new }
@@ -102,6 +107,7 @@ pub(crate) fn declare_fun(
 ) -> Result<CommandKind, ReadRefusal>
     requires state { IsStateIn work.old context.now }
     requires some { 3 ≤ length items.now }
+    requires room { HasNumbers work.old (numbers_in_items items.now) }
     ensures gives { (p : PositionValue) → Gives (λ k. k) result work.old work.new (understood context.now p verb.DeclareFun items.now) }
     ensures range { IfOk result (IsKindIn work.new) }
     ensures grows { Grows work.old work.new }
@@ -120,7 +126,8 @@ fn whole_term(
     context: &Context<'_>,
     e: &SExpr,
 ) -> Result<Meaning, ReadRefusal>
-    requires { IsStateIn work.old context.now }
+    requires state { IsStateIn work.old context.now }
+    requires room { HasNumbers work.old (whole_size e.now) }
     ensures gives { Gives (λ m. m) result work.old work.new (term (env context.now) e.now) }
     ensures range { IfOk result (λ m. IsMeaningIn work.new m) }
     ensures grows { Grows work.old work.new }
@@ -159,6 +166,7 @@ pub(crate) fn assert(
 ) -> Result<CommandKind, ReadRefusal>
     requires state { IsStateIn work.old context.now }
     requires some { 1 ≤ length items.now }
+    requires room { HasNumbers work.old (numbers_in_items items.now) }
     ensures gives { Gives (λ k. k) result work.old work.new (understood context.now at verb.Assert items.now) }
     ensures range { IfOk result (IsKindIn work.new) }
     ensures grows { Grows work.old work.new }
@@ -182,6 +190,7 @@ fn parameter_named<'e>(
     name: &'e SExpr,
     sort: &SExpr,
 ) -> Result<Named<'e>, ReadRefusal>
+    requires { HasNumbers work.old 1 }
     ensures gives { Gives (λ x. (x.0.now, x.1, x.2)) result work.old work.new (parameter_named (map (λ b. b.0) earlier.now) name.now sort.now) }
     ensures range { IfOk result (λ x. HasSort work.new.given x.1 x.2) }
     ensures grows { Grows work.old work.new }
@@ -196,6 +205,7 @@ fn parameter<'e>(
     earlier: &Bindings,
     e: &'e SExpr,
 ) -> Result<Named<'e>, ReadRefusal>
+    requires { HasNumbers work.old 1 }
     ensures gives { Gives (λ x. (x.0.now, x.1, x.2)) result work.old work.new (variable (map (λ b. b.0) earlier.now) e.now) }
     ensures range { IfOk result (λ x. HasSort work.new.given x.1 x.2) }
     ensures grows { Grows work.old work.new }
@@ -215,7 +225,8 @@ fn bind_parameter(
     sorts: &mut Vec<Sort>,
     e: &SExpr,
 ) -> Result<(), ReadRefusal>
-    requires { AllByRecursion (λ (b : Name × BoundValue). IsBoundIn work.old b.1) bound.old }
+    requires bound { AllByRecursion (λ (b : Name × BoundValue). IsBoundIn work.old b.1) bound.old }
+    requires room { HasNumbers work.old 1 }
     ensures gives { Gives (λ _. (bound.new, numbers.new.items, sorts.new.items)) result work.old work.new (parameter (bound.old, numbers.old.items, sorts.old.items) e.now) }
     ensures range { OnOk result (AllByRecursion (λ (b : Name × BoundValue). IsBoundIn work.new b.1) bound.new) }
     ensures grows { Grows work.old work.new }
@@ -239,7 +250,8 @@ fn bind_parameters(
     sorts: &mut Vec<Sort>,
     es: &[SExpr],
 ) -> Result<(), ReadRefusal>
-    requires { AllByRecursion (λ (b : Name × BoundValue). IsBoundIn work.old b.1) bound.old }
+    requires bound { AllByRecursion (λ (b : Name × BoundValue). IsBoundIn work.old b.1) bound.old }
+    requires room { HasNumbers work.old (length es.now) }
     ensures gives { Gives (λ _. (bound.new, numbers.new.items, sorts.new.items)) result work.old work.new (parameters_from (bound.old, numbers.old.items, sorts.old.items) es.now) }
     ensures range { OnOk result (AllByRecursion (λ (b : Name × BoundValue). IsBoundIn work.new b.1) bound.new) }
     ensures grows { Grows work.old work.new }
@@ -260,6 +272,7 @@ fn body_term(
 ) -> Result<Meaning, ReadRefusal>
     requires context { IsStateIn work.old context.now }
     requires bound { AllByRecursion (λ (b : Name × BoundValue). IsBoundIn work.old b.1) bound }
+    requires room { HasNumbers work.old (whole_size e.now) }
     ensures gives { Gives (λ m. m) result work.old work.new (term (record { bound = bound; live = context.now.symbols }) e.now) }
     ensures range { IfOk result (λ m. IsMeaningIn work.new m) }
     ensures grows { Grows work.old work.new }
@@ -283,6 +296,7 @@ fn definition_of(
 ) -> Result<CommandKind, ReadRefusal>
     requires context { IsStateIn work.old context.now }
     requires bound { AllByRecursion (λ (b : Name × BoundValue). IsBoundIn work.old b.1) bound }
+    requires room { HasNumbers work.old (whole_size body.now) }
     ensures gives { Gives (λ k. k) result work.old work.new (definition_of name.now context.now body.now (bound, numbers.items, sorts.items) sort) }
     ensures range { IfOk result (IsKindIn work.new) }
     ensures grows { Grows work.old work.new }
@@ -310,7 +324,8 @@ fn defined(
     sort: &SExpr,
     body: &SExpr,
 ) -> Result<CommandKind, ReadRefusal>
-    requires { IsStateIn work.old context.now }
+    requires state { IsStateIn work.old context.now }
+    requires room { HasNumbers work.old (whole_size parameters.now + whole_size body.now) }
     ensures gives { Gives (λ k. k) result work.old work.new (defined_by context.now name.now parameters.now sort.now body.now) }
     ensures range { IfOk result (IsKindIn work.new) }
     ensures grows { Grows work.old work.new }
@@ -337,6 +352,7 @@ pub(crate) fn define_fun(
 ) -> Result<CommandKind, ReadRefusal>
     requires state { IsStateIn work.old context.now }
     requires some { 4 ≤ length items.now }
+    requires room { HasNumbers work.old (numbers_in_items items.now) }
     ensures gives { (p : PositionValue) → Gives (λ k. k) result work.old work.new (understood context.now p verb.DefineFun items.now) }
     ensures range { IfOk result (IsKindIn work.new) }
     ensures grows { Grows work.old work.new }

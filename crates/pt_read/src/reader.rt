@@ -1,5 +1,6 @@
 use crate::command::Command;
 use crate::scope::Scope;
+use pt_syntax::laws::lists_are_no_larger_than_their_text;
 use pt_syntax::{ListReader, ReadRefusal};
 use std::alloc::Global;
 use std::marker::Model;
@@ -16,7 +17,13 @@ impl<'a> Model for Reader<'a> {
 
     ghost Value = { Rest };
 
+    ghost use Rattle.std.specs.Prelude.{◌≤◌};
+    ghost use Rattle.pt_syntax.specs.Rest.{lists_left};
+    ghost use Rattle.pt_read.specs.Numbers.{numbers_in};
+
     ghost view = { λ r. record { lists = r.lists; refused = r.refused } };
+
+    ghost invariant = { λ r. numbers_in (lists_left r.lists) ≤ 4194304 };
 }
 
 impl<'a> Reader<'a> {
@@ -31,6 +38,7 @@ impl<'a> Reader<'a> {
         requires { length bytes.now ≤ 4194304 }
         ensures { result ≡ at_start bytes.now }
     {
+        lists_are_no_larger_than_their_text();
         Reader {
             lists: ListReader::new(bytes),
             refused: None,
@@ -63,7 +71,8 @@ impl<'a> Reader<'a> {
     /// The next command, where no refusal was answered before.
     #[tactic(auto, using(crate::proofs::ReadingLaws::reading))]
     fn read(&mut self, alloc: Global, scope: &mut Scope) -> Result<Option<Command>, ReadRefusal>
-        requires { self.old.refused ≡ None }
+        requires new { self.old.refused ≡ None }
+        requires few { length scope.old.given ≤ 2 ^ 31 }
         ensures same { self.new.refused ≡ None }
         ensures reads { Reads result (lists_left self.old.lists) scope.old (lists_left self.new.lists) scope.new }
         ensures adds { OnlyAdds scope.old scope.new }

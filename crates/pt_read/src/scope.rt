@@ -62,7 +62,7 @@ fn assertions_up_to(assertions: &[Assertion], level: u128) -> usize
 
 /// The readers take constant time.
 impl Scope {
-    ghost use Rattle.std.specs.Prelude.{◌<◌, ◌≤◌, ◌^◌, ◌↔◌, ℕ, ℤ, List, length, IfOk, OnOk, OnErr};
+    ghost use Rattle.std.specs.Prelude.{◌<◌, ◌≤◌, ◌+◌, ◌^◌, ◌↔◌, ℕ, ℤ, List, length, IfOk, OnOk, OnErr};
     ghost use Rattle.pt_formula.specs.Formulas.{tree_of};
     ghost use Rattle.pt_formula.specs.Truth.{Solutions};
     ghost use Rattle.pt_read.specs.Scope.{initial, after, conjunction};
@@ -72,6 +72,7 @@ impl Scope {
     ghost use Rattle.pt_read.specs.Commands.{elaborate};
     ghost use Rattle.pt_read.specs.Reader.{Elaborated, OnlyAdds};
     ghost use Rattle.pt_read.specs.Context.{joined};
+    ghost use Rattle.pt_read.specs.Numbers.{numbers_in_items};
     ghost use Rattle.pt_terms.specs.Sorts.{HasSort, AgreeBySort};
 
     /// Node 0 alone, no names, level 0, and no variable given out.
@@ -187,6 +188,7 @@ impl Scope {
         at: Position,
         items: &[SExpr],
     ) -> Result<Command, ReadRefusal>
+        requires { length self.old.given + numbers_in_items items.now < 2 ^ 32 }
         ensures elaborated { Elaborated result self.old self.new (elaborate self.old at items.now) }
         ensures adds { OnlyAdds self.old self.new }
     {

@@ -34,14 +34,14 @@ use Rattle.pt_terms.proofs.Adding.{adds-give, adds-refuse, adds-then, adds-on, a
 
 -- ---- sizes
 
-abbrev Deeper : Type 0
+abbrev pub Deeper : Type 0
 Deeper = (n : ℕ) (e : SExpr) → size_within n e ≤ size_within (suc n) e
 
 some-layer : (size : SExpr → ℕ) (l : SExpr-F SExpr) → 1 ≤ layer_size size l
 some-layer size (layer.Leaf leaf p) = let is : 1 ≤ 1 = omega arith in is
 some-layer size (layer.List items p) = let is : 1 ≤ 1 + sum_by size items = omega arith in is
 
-some-size : (n : ℕ) (e : SExpr) → 1 ≤ size_within n e
+pub some-size : (n : ℕ) (e : SExpr) → 1 ≤ size_within n e
 some-size zero e = let is : 1 ≤ 1 = omega arith in is
 some-size (suc n) e = some-layer (size_within n) (out-SExpr e)
 
@@ -50,10 +50,10 @@ items-within-layer size (layer.Leaf leaf p) = let is : 0 ≤ 1 = omega arith in 
 items-within-layer size (layer.List items p) = let is : sum_by size items ≤ 1 + sum_by size items = omega arith in is
 
 -- the items of a list are together smaller than it is
-items-within : (n : ℕ) (e : SExpr) → sum_by (size_within n) (items_or_none (items_of e)) ≤ size_within (suc n) e
+pub items-within : (n : ℕ) (e : SExpr) → sum_by (size_within n) (items_or_none (items_of e)) ≤ size_within (suc n) e
 items-within n e = items-within-layer (size_within n) (out-SExpr e)
 
-wider : Deeper → (n : ℕ) (e : SExpr) → size_within n e ≤ size_within (suc (suc n)) e
+pub wider : Deeper → (n : ℕ) (e : SExpr) → size_within n e ≤ size_within (suc (suc n)) e
 wider deeper n e = omega (arith, deeper n e, deeper (suc n) e)
 
 -- ---- binders
@@ -88,12 +88,15 @@ adds-binding-layer n term h taken p (layer.List (a ∷ b ∷ []) q) =
     adds-more (size_within n b) (layer_size (size_within n) (layer.List (a ∷ b ∷ []) q)) (Terms.bindable taken a >>= λ name. term b >>= λ m. give (name, Standing m)) (second-layer n p q a b) (adds-bound n term h taken a b)
 adds-binding-layer n term h taken p (layer.List (a ∷ b ∷ c ∷ more) q) = adds-refuse (layer_size (size_within n) (layer.List (a ∷ b ∷ c ∷ more) q)) Syntax p
 
-adds-bindings : (n : ℕ) (term : SExpr → Elab Meaning) → ((e : SExpr) → AddsAtMost (size_within n e) (term e)) → (done : List (Name × Bound)) (es : List SExpr) → AddsAtMost (sum_by (size_within (suc n)) es) (Terms.bindings term done es)
+pub adds-binding : (n : ℕ) (term : SExpr → Elab Meaning) → ((e : SExpr) → AddsAtMost (size_within n e) (term e)) → (taken : List Name) (e : SExpr) → AddsAtMost (size_within (suc n) e) (Terms.binding term taken e)
+adds-binding n term h taken e = adds-binding-layer n term h taken (place_of e) (out-SExpr e)
+
+pub adds-bindings : (n : ℕ) (term : SExpr → Elab Meaning) → ((e : SExpr) → AddsAtMost (size_within n e) (term e)) → (done : List (Name × Bound)) (es : List SExpr) → AddsAtMost (sum_by (size_within (suc n)) es) (Terms.bindings term done es)
 adds-bindings n term h done [] = adds-give 0 done
 adds-bindings n term h done (e ∷ es) =
     adds-more (size_within (suc n) e + sum_by (size_within (suc n)) es) (sum_by (size_within (suc n)) (e ∷ es)) (Terms.bindings term done (e ∷ es)) (omega (arith, sum_by-cons (size_within (suc n)) e es))
     (adds-then (size_within (suc n) e) (sum_by (size_within (suc n)) es) (Terms.binding term (map (λ b. b.0) done) e) (λ b. Terms.bindings term (b ∷ done) es)
-    (adds-binding-layer n term h (map (λ b. b.0) done) (place_of e) (out-SExpr e)) (λ b. adds-bindings n term h (b ∷ done) es))
+    (adds-binding n term h (map (λ b. b.0) done) e) (λ b. adds-bindings n term h (b ∷ done) es))
 
 pub adds-named-sort : (e : SExpr) → AddsAtMost 0 (Terms.named_sort e)
 adds-named-sort e = by-name (bytes_eq (name_of (symbol_of e)) (codes "Int")) (bytes_eq (name_of (symbol_of e)) (codes "Bool"))
@@ -110,7 +113,7 @@ adds-variable taken e =
     (λ name. adds-on 1 (Terms.named_sort t) (λ x. fresh x >>= λ v. give (name, v, x)) (adds-named-sort t)
     (λ x. adds-then 1 0 (fresh x) (λ v. give (name, v, x)) (adds-fresh x) (λ v. adds-give 0 (name, v, x)))))
 
-adds-variables : (n : ℕ) (done : List (Name × ℕ × VariableSort)) (es : List SExpr) → AddsAtMost (sum_by (size_within n) es) (Terms.variables done es)
+pub adds-variables : (n : ℕ) (done : List (Name × ℕ × VariableSort)) (es : List SExpr) → AddsAtMost (sum_by (size_within n) es) (Terms.variables done es)
 adds-variables n done [] = adds-give 0 done
 adds-variables n done (e ∷ es) =
     adds-more (1 + sum_by (size_within n) es) (sum_by (size_within n) (e ∷ es)) (Terms.variables done (e ∷ es)) (omega (arith, sum_by-cons (size_within n) e es, some-size n e))
@@ -194,7 +197,7 @@ adds-indexed-head q (mark ∷ name ∷ indices) = adds-indexed q (symbol_of mark
 abbrev IsFew : ℕ → (Env → SExpr → Elab Meaning) → Type 0
 IsFew n term = (env : Env) (e : SExpr) → AddsAtMost (size_within n e) (term env e)
 
-adds-argument : (n : ℕ) (term : Env → SExpr → Elab Meaning) → IsFew n term → (env : Env) (e : SExpr) → AddsAtMost (size_within n e) (Terms.argument (term env) e)
+pub adds-argument : (n : ℕ) (term : Env → SExpr → Elab Meaning) → IsFew n term → (env : Env) (e : SExpr) → AddsAtMost (size_within n e) (Terms.argument (term env) e)
 adds-argument n term few env e =
     adds-more (size_within n e + 0) (size_within n e) (Terms.argument (term env) e) (omega arith) (adds-then (size_within n e) 0 (term env e) (λ m. give (place_of e, m)) (few env e) (λ m. adds-give 0 (place_of e, m)))
 

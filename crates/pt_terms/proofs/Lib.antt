@@ -39,3 +39,4 @@ pub mod ReplacedParameters
 pub mod IntegerCopies
 pub mod KeepTerms
 pub mod SortedTrees
+pub mod Room

@@ -37,6 +37,7 @@ impl Elaborator {
     ghost use Rattle.pt_terms.specs.Terms.{bindable, variable, variables, as_bound, exists_all, quantified};
     ghost use Rattle.pt_terms.specs.Layers.{sorted_variable};
     ghost use Rattle.pt_terms.specs.Gives.{Gives, Grows};
+    ghost use Rattle.pt_terms.specs.Numbers.{HasNumbers};
     ghost use Rattle.pt_terms.specs.Sorts.{HasSort};
 
     /// The name of a symbol that may be bound.
@@ -71,6 +72,7 @@ impl Elaborator {
         name: &'e [u8],
         sort: &SExpr,
     ) -> Result<Named<'e>, ReadRefusal>
+        requires { HasNumbers self.old 1 }
         ensures gives { Gives (λ x. (x.0.now, x.1, x.2)) result self.old self.new (sorted_variable name.now sort.now) }
         ensures range { IfOk result (λ x. HasSort self.new.given x.1 x.2) }
         ensures grows { Grows self.old self.new }
@@ -82,6 +84,7 @@ impl Elaborator {
 
     /// A variable of a quantifier, with the next number.
     fn variable<'e>(&mut self, e: &'e SExpr) -> Result<Named<'e>, ReadRefusal>
+        requires { HasNumbers self.old 1 }
         ensures gives { Gives (λ x. (x.0.now, x.1, x.2)) result self.old self.new (variable [] e.now) }
         ensures range { IfOk result (λ x. HasSort self.new.given x.1 x.2) }
         ensures grows { Grows self.old self.new }
@@ -102,6 +105,7 @@ impl Elaborator {
         alloc: Global,
         es: &'e [SExpr],
     ) -> Result<Vec<Named<'e>>, ReadRefusal>
+        requires { HasNumbers self.old (length es.now) }
         ensures gives { Gives (λ v. reverse (map (λ x. (x.0.now, x.1, x.2)) v.items)) result self.old self.new (variables [] es.now) }
         ensures range { IfOk result (λ v. All (λ x. HasSort self.new.given x.1 x.2) v.items) }
         ensures grows { Grows self.old self.new }

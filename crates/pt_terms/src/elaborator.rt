@@ -15,7 +15,7 @@ use pt_formula::laws::{
     appended_nodes_change_no_earlier_one, trees_are_made_of_those_of_the_children,
 };
 use pt_formula::{Formula, Kind, Node, Op, Position};
-use pt_syntax::{ReadRefusal, no_memory};
+use pt_syntax::ReadRefusal;
 use std::alloc::Global;
 use std::marker::Model;
 
@@ -56,6 +56,7 @@ impl Elaborator {
     ghost use Rattle.pt_formula.specs.declared.node.Node.TheVariants as node;
     ghost use Rattle.pt_terms.specs.Elaboration.{make, make_exists, fresh};
     ghost use Rattle.pt_terms.specs.Gives.{Gives, Grows};
+    ghost use Rattle.pt_terms.specs.Numbers.{HasNumbers};
     ghost use Rattle.pt_terms.specs.declared.meaning.Sort.TheVariants as sort;
     ghost use Rattle.pt_terms.specs.Sorts.{HasSort, AreIntegers, AreSorted, truth_atom};
 
@@ -229,17 +230,14 @@ impl Elaborator {
         }
     }
 
-    /// The next variable number, for a variable of this sort. Where all 2^32 - 1 are given out, which no text is long enough for, that is
-    /// want of memory.
+    /// The next variable number, for a variable of this sort.
     pub fn fresh(&mut self, sort: Sort) -> Result<u32, ReadRefusal>
+        requires { HasNumbers self.old 1 }
         ensures gives { Gives (λ v. v) result self.old self.new (fresh sort) }
         ensures range { IfOk result (λ v. HasSort self.new.given v sort) }
         ensures grows { Grows self.old self.new }
     {
         let v = self.sorts.len();
-        if v >= u32::MAX as usize {
-            return Err(no_memory());
-        }
         self.sorts.push(sort)?;
         Ok(v as u32)
     }

@@ -9,11 +9,12 @@ use crate::refusals::{memory_refusal, refused};
 use pt_grammar::exprs::{items, items_in, place};
 use pt_grammar::forms::{fault_of_annotation, fault_of_let, fault_of_quantifier};
 use pt_grammar::words::{Head, head_of};
+use pt_syntax::laws::a_deeper_look_finds_no_less;
 use pt_syntax::{Leaf, Position, ReadKind, ReadRefusal, SExpr};
 use std::alloc::Global;
 
 impl Elaborator {
-    ghost use Rattle.std.specs.Prelude.{◌≡◌, ◌<◌, ◌≤◌, ◌-◌, ◌^◌, [], length, map, reverse, true, false, IfOk, IfErr, OnOk, All};
+    ghost use Rattle.std.specs.Prelude.{◌≡◌, ◌<◌, ◌≤◌, ◌+◌, ◌-◌, ◌^◌, [], length, map, reverse, sum_by, true, false, suc, IfOk, IfErr, OnOk, All};
     ghost use Rattle.std.specs.List.{AllByRecursion};
     ghost use Rattle.pt_grammar.specs.Words.{Name};
     ghost use Rattle.pt_terms.specs.declared.meaning.Bound.{Bound as BoundValue};
@@ -31,9 +32,11 @@ impl Elaborator {
     ghost use Rattle.pt_grammar.specs.Forms.{annotation_fault, let_fault, quantifier_fault};
     ghost use Rattle.pt_terms.specs.Layers.{pair, let_parts, quantifier_parts};
     ghost use Rattle.pt_syntax.specs.declared.sexpr.SExpr.{out-SExpr};
+    ghost use Rattle.pt_syntax.specs.Sizes.{size_within};
     ghost use Rattle.pt_syntax.specs.declared.sexpr.SExpr.TheOpen as layer;
     ghost use Rattle.pt_terms.specs.Environment.{inside};
     ghost use Rattle.pt_terms.specs.Gives.{Gives, Grows};
+    ghost use Rattle.pt_terms.specs.Numbers.{HasNumbers, looks, term_size, item_size, items_size};
     ghost use Rattle.pt_terms.specs.Sound.{IsMeaningIn, IsBoundIn, IsEnvIn};
     ghost use Rattle.pt_terms.specs.Sorts.{HasSort};
 
@@ -48,6 +51,7 @@ impl Elaborator {
         e: &SExpr,
     ) -> Result<Meaning, ReadRefusal>
         requires env { IsEnvIn self.old env.old }
+        requires room { HasNumbers self.old (term_size depth e.now) }
         ensures gives { Gives (λ m. m) result self.old self.new (term_within depth env.old e.now) }
         ensures range { IfOk result (IsMeaningIn self.new) }
         ensures grows { Grows self.old self.new }
@@ -73,6 +77,7 @@ impl Elaborator {
         items: &[SExpr],
     ) -> Result<Meaning, ReadRefusal>
         requires env { IsEnvIn self.old env.old }
+        requires room { HasNumbers self.old (items_size depth items.now) }
         ensures gives { Gives (λ m. m) result self.old self.new (layer_term (term_within depth) env.old (layer.List items.now at)) }
         ensures range { IfOk result (IsMeaningIn self.new) }
         ensures grows { Grows self.old self.new }
@@ -97,6 +102,7 @@ impl Elaborator {
         rest: &[SExpr],
     ) -> Result<Meaning, ReadRefusal>
         requires env { IsEnvIn self.old env.old }
+        requires room { HasNumbers self.old (items_size depth rest.now) }
         ensures gives { Gives (λ m. m) result self.old self.new (headed (term_within depth) env.old at (out-SExpr first.now) rest.now) }
         ensures range { IfOk result (IsMeaningIn self.new) }
         ensures grows { Grows self.old self.new }
@@ -129,6 +135,7 @@ impl Elaborator {
         rest: &[SExpr],
     ) -> Result<Meaning, ReadRefusal>
         requires env { IsEnvIn self.old env.old }
+        requires room { HasNumbers self.old (items_size depth rest.now) }
         ensures gives { Gives (λ m. m) result self.old self.new (applied (term_within depth) env.old at place name.now (head_of name.now) rest.now) }
         ensures range { IfOk result (IsMeaningIn self.new) }
         ensures grows { Grows self.old self.new }
@@ -159,11 +166,13 @@ impl Elaborator {
         es: &[SExpr],
     ) -> Result<Vec<Argument>, ReadRefusal>
         requires env { IsEnvIn self.old env.old }
+        requires room { HasNumbers self.old (items_size depth es.now) }
         ensures gives { Gives (λ v. v.items) result self.old self.new (each (argument (term_within depth env.old)) es.now) }
         ensures range { IfOk result (λ v. All (λ (a : Argument). IsMeaningIn self.new a.1) v.items) }
         ensures grows { Grows self.old self.new }
         ensures env { OnOk result (env.new ≡ env.old) }
     {
+        a_deeper_look_finds_no_less();
         let mut found = Vec::new(alloc);
         for e in es {
             let a = self.argument(alloc, depth, env, e)?;
@@ -182,6 +191,7 @@ impl Elaborator {
         e: &SExpr,
     ) -> Result<Argument, ReadRefusal>
         requires env { IsEnvIn self.old env.old }
+        requires room { HasNumbers self.old (term_size depth e.now) }
         ensures gives { Gives (λ a. a) result self.old self.new (argument (term_within depth env.old) e.now) }
         ensures range { IfOk result (λ (a : Argument). IsMeaningIn self.new a.1) }
         ensures grows { Grows self.old self.new }
@@ -202,11 +212,13 @@ impl Elaborator {
         rest: &[SExpr],
     ) -> Result<Meaning, ReadRefusal>
         requires env { IsEnvIn self.old env.old }
+        requires room { HasNumbers self.old (items_size depth rest.now) }
         ensures gives { Gives (λ m. m) result self.old self.new (unless_faulty (annotation_fault at rest.now) (annotated (term_within depth env.old) at rest.now)) }
         ensures range { IfOk result (IsMeaningIn self.new) }
         ensures grows { Grows self.old self.new }
         ensures env { OnOk result (env.new ≡ env.old) }
     {
+        a_deeper_look_finds_no_less();
         if let Some(fault) = fault_of_annotation(at, rest) {
             return Err(refused(ReadKind::Syntax, fault));
         }
@@ -227,6 +239,7 @@ impl Elaborator {
         rest: &[SExpr],
     ) -> Result<Meaning, ReadRefusal>
         requires env { IsEnvIn self.old env.old }
+        requires room { HasNumbers self.old (items_size depth rest.now) }
         ensures gives { Gives (λ m. m) result self.old self.new (unless_faulty (let_fault at rest.now) (let_term (term_within depth) env.old at rest.now)) }
         ensures range { IfOk result (IsMeaningIn self.new) }
         ensures grows { Grows self.old self.new }
@@ -297,11 +310,13 @@ impl Elaborator {
         body: &SExpr,
     ) -> Result<Meaning, ReadRefusal>
         requires env { IsEnvIn self.old env.old }
+        requires room { HasNumbers self.old (item_size depth list.now + item_size depth body.now) }
         ensures gives { Gives (λ m. m) result self.old self.new (let_parts (term_within depth) env.old list.now body.now) }
         ensures range { IfOk result (IsMeaningIn self.new) }
         ensures grows { Grows self.old self.new }
         ensures env { OnOk result (env.new ≡ env.old) }
     {
+        a_deeper_look_finds_no_less();
         let names = self.bindings(alloc, depth, env, items_in(list))?;
         let outer = self.enter(alloc, env, &names)?;
         self.body(alloc, depth, env, outer, body)
@@ -318,6 +333,7 @@ impl Elaborator {
         e: &SExpr,
     ) -> Result<Meaning, ReadRefusal>
         requires env { IsEnvIn self.old env.old }
+        requires room { HasNumbers self.old (term_size depth e.now) }
         requires outer { outer ≤ length env.old.bound }
         ensures gives { Gives (λ m. m) result self.old self.new (term_within depth env.old e.now) }
         ensures range { IfOk result (IsMeaningIn self.new) }
@@ -344,11 +360,13 @@ impl Elaborator {
         es: &[SExpr],
     ) -> Result<Bindings, ReadRefusal>
         requires env { IsEnvIn self.old env.old }
+        requires room { HasNumbers self.old (sum_by (size_within (suc (looks depth))) es.now) }
         ensures gives { Gives (λ b. b) result self.old self.new (bindings (term_within depth env.old) [] es.now) }
         ensures range { IfOk result (AllByRecursion (λ (b : Name × BoundValue). IsBoundIn self.new b.1)) }
         ensures grows { Grows self.old self.new }
         ensures env { OnOk result (env.new ≡ env.old) }
     {
+        a_deeper_look_finds_no_less();
         let mut found = Bindings::new(alloc);
         for e in es {
             let (name, m) = self.binding(alloc, depth, env, &found, e)?;
@@ -371,6 +389,7 @@ impl Elaborator {
         e: &'e SExpr,
     ) -> Result<(&'e [u8], Meaning), ReadRefusal>
         requires env { IsEnvIn self.old env.old }
+        requires room { HasNumbers self.old (size_within (suc (looks depth)) e.now) }
         ensures gives { Gives (λ b. (b.0.now, Term b.1)) result self.old self.new (binding (term_within depth env.old) (map (λ b. b.0) found.now) e.now) }
         ensures range { IfOk result (λ b. IsMeaningIn self.new b.1) }
         ensures grows { Grows self.old self.new }
@@ -394,6 +413,7 @@ impl Elaborator {
         e: &SExpr,
     ) -> Result<(&'e [u8], Meaning), ReadRefusal>
         requires env { IsEnvIn self.old env.old }
+        requires room { HasNumbers self.old (term_size depth e.now) }
         ensures gives { Gives (λ b. (b.0.now, Term b.1)) result self.old self.new (pair (term_within depth env.old) (map (λ b. b.0) found.now) symbol.now e.now) }
         ensures range { IfOk result (λ b. IsMeaningIn self.new b.1) }
         ensures grows { Grows self.old self.new }
@@ -416,6 +436,7 @@ impl Elaborator {
         rest: &[SExpr],
     ) -> Result<Meaning, ReadRefusal>
         requires env { IsEnvIn self.old env.old }
+        requires room { HasNumbers self.old (items_size depth rest.now) }
         ensures gives { Gives (λ m. m) result self.old self.new (unless_faulty (quantifier_fault at rest.now) (quantifier (term_within depth) env.old is_exists at rest.now)) }
         ensures range { IfOk result (IsMeaningIn self.new) }
         ensures grows { Grows self.old self.new }
@@ -446,11 +467,13 @@ impl Elaborator {
         body: &SExpr,
     ) -> Result<Meaning, ReadRefusal>
         requires env { IsEnvIn self.old env.old }
+        requires room { HasNumbers self.old (item_size depth list.now + item_size depth body.now) }
         ensures gives { Gives (λ m. m) result self.old self.new (quantifier_parts (term_within depth) env.old is_exists at list.now body.now) }
         ensures range { IfOk result (IsMeaningIn self.new) }
         ensures grows { Grows self.old self.new }
         ensures env { OnOk result (env.new ≡ env.old) }
     {
+        a_deeper_look_finds_no_less();
         let variables = self.variables(alloc, items_in(list))?;
         let outer = self.enter_variables(alloc, env, variables.as_slice())?;
         let m = self.body(alloc, depth, env, outer, body)?;
@@ -473,6 +496,7 @@ impl Elaborator {
         rest: &[SExpr],
     ) -> Result<Meaning, ReadRefusal>
         requires env { IsEnvIn self.old env.old }
+        requires room { HasNumbers self.old (items_size depth rest.now) }
         ensures gives { Gives (λ m. m) result self.old self.new (applied (term_within depth) env.old at place name.now word.Named rest.now) }
         ensures range { IfOk result (IsMeaningIn self.new) }
         ensures grows { Grows self.old self.new }

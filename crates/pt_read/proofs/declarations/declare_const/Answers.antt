@@ -1,10 +1,14 @@
-use Rattle.std.proofs.Common.{subst, sym}
+use Rattle.std.proofs.Common.{arith, subst, sym}
 use Rattle.pt_grammar.specs.declared.verbs.Verb.TheVariants as verb
 use Rattle.pt_base.specs.declared.Position.{Position}
 use Rattle.pt_read.specs.Commands.{understood}
 use Rattle.pt_terms.specs.Gives.{Gives}
+use Rattle.pt_read.proofs.Room.{many-numbers}
 use Rattle.pt_read.proofs.ItemLemmas.{two_items}
 use Rattle.pt_read.proofs.declarations.declare_const.Goals as goal
 
 pub returns-clause-gives : goal.returns-clause-gives
 returns-clause-gives c = λ (p : Position). subst (λ is. Gives (λ k. k) c.declared.result c.args.work.now c.declared.new.work (understood c.args.context.now p verb.DeclareConst is)) (sym (two_items c.args.items.now _ _ c.in-len2-up.len_at_least c.name-item.is c.sort-item.is)) c.declared.ensures.gives
+
+pub declared-requires : goal.declared-requires
+declared-requires c = omega (arith, c.requires.some, c.requires.room, many-numbers c.args.items.now)

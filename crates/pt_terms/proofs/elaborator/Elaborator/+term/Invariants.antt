@@ -1,4 +1,5 @@
-use Rattle.std.proofs.Common.{◌+◌, ◌*◌, ◌≡◌, ◌++◌, [], All, drop}
+use Rattle.std.proofs.Common.{◌+◌, ◌*◌, ◌≡◌, ◌≤◌, suc, ◌++◌, [], length, All, drop}
+use Rattle.std.specs.Prelude.{sum_by}
 use Rattle.std.specs.List.{AllByRecursion}
 use Rattle.pt_grammar.specs.Words.{Name}
 use Rattle.pt_terms.specs.declared.meaning.Bound.{Bound}
@@ -6,6 +7,8 @@ use Rattle.pt_terms.specs.Elaboration.{each, give, ◌>>=◌}
 use Rattle.pt_terms.specs.Theory.{Argument}
 use Rattle.pt_terms.specs.Terms.{term_within, argument, bindings}
 use Rattle.pt_terms.specs.Gives.{Grows}
+use Rattle.pt_syntax.specs.Sizes.{size_within}
+use Rattle.pt_terms.specs.Numbers.{looks, items_size}
 use Rattle.pt_terms.specs.Sound.{IsMeaningIn, IsBoundIn, IsEnvIn}
 use Rattle.pt_terms.proofs.elaborator.Elaborator.+term.Given as goal
 
@@ -17,6 +20,7 @@ invariant-arguments-loop-e l = record {
   grows : Grows l.fn.self l.self;
   same : l.env ≡ l.fn.env;
   env : IsEnvIn l.self l.env;
+  few : length l.self.given + items_size l.fn.depth (drop l.e-index l.es) ≤ length l.fn.self.given + items_size l.fn.depth l.fn.es;
 }
 
 -- what is left, after those that are found, gives what all give
@@ -27,6 +31,7 @@ invariant-bindings-loop-e l = record {
   grows : Grows l.fn.self l.self;
   same : l.env ≡ l.fn.env;
   env : IsEnvIn l.self l.env;
+  few : length l.self.given + sum_by (size_within (suc (looks l.fn.depth))) (drop l.e-index l.es) ≤ length l.fn.self.given + sum_by (size_within (suc (looks l.fn.depth))) l.fn.es;
 }
 
 abbrev pub decreases-term : goal.decreases-term
