@@ -7,7 +7,7 @@ use Rattle.pt_syntax.specs.declared.sexpr.TopList.{TopList}
 use Rattle.pt_syntax.specs.Sizes.{size_within}
 use Rattle.pt_syntax.specs.Lists.{Script, Done, Stops, Command}
 use Rattle.pt_syntax.specs.Rest.{IsNextList, NextOrNoMemory}
-use Rattle.pt_formula.specs.declared.node.Position.{Position}
+use Rattle.pt_base.specs.declared.Position.{Position}
 use Rattle.pt_grammar.specs.Exprs.{items_of, items_or_none}
 use Rattle.pt_terms.specs.Elaboration.{give}
 use Rattle.pt_terms.specs.Numbers.{AddsAtMost, looks, whole_size}
