@@ -31,7 +31,7 @@ use pt_terms::environment::Environment;
 use pt_terms::laws::names_stay_in_range;
 use pt_terms::meaning::{Bound, Meaning, Sort};
 use pt_terms::parameters::Parameters;
-use pt_terms::refusals::{memory_refusal, refused};
+use pt_terms::refusals::refused;
 use pt_terms::sorts::Sorts;
 use std::alloc::Global;
 
@@ -233,9 +233,7 @@ fn bind_parameter(
 {
     names_stay_in_range();
     let x = parameter(work, bound, e)?;
-    bound
-        .push(alloc, x.0, Bound::Variable(x.1, x.2))
-        .map_err(memory_refusal)?;
+    bound.push(alloc, x.0, Bound::Variable(x.1, x.2))?;
     numbers.push(x.1)?;
     sorts.push(x.2)?;
     Ok(())
@@ -278,7 +276,7 @@ fn body_term(
     ensures grows { Grows work.old work.new }
 {
     let mut env = Environment::new(alloc, context.live());
-    env.bind_all(alloc, &bound).map_err(memory_refusal)?;
+    env.bind_all(alloc, &bound)?;
     work.whole_term(alloc, &mut env, e)
 }
 

@@ -2,6 +2,7 @@ ghost use Rattle.std.specs.Prelude.{◌≡◌};
 ghost use Rattle.pt_syntax.specs.Rest.{no_memory as no_memory_refusal};
 
 use pt_base::Position;
+use pt_digits::NoMemory;
 use std::alloc::{AllocError, AllocFailed};
 
 /// Why a text is refused.
@@ -35,6 +36,14 @@ pub fn no_memory() -> ReadRefusal
     ReadRefusal {
         kind: ReadKind::NoMemory,
         position: Position { line: 1, column: 1 },
+    }
+}
+
+impl From<NoMemory> for ReadRefusal {
+    ghost from_gives = { λ _ e. e ≡ no_memory_refusal };
+
+    fn from(_e: NoMemory) -> ReadRefusal {
+        no_memory()
     }
 }
 

@@ -5,7 +5,7 @@ ghost use Rattle.std.specs.Int.{int_rem_euclid};
 use crate::arithmetic::{Argument, copy_of_form};
 use crate::elaborator::Elaborator;
 use crate::meaning::Meaning;
-use crate::refusals::{memory_refusal, refused};
+use crate::refusals::refused;
 use pt_formula::{Form, Kind, Op, Position};
 use pt_grammar::words::{Operator, Relation};
 use pt_syntax::{ReadKind, ReadRefusal};
@@ -245,7 +245,7 @@ impl Elaborator {
         ensures gives { Gives (λ g. g) result self.now self.now (give f.now) }
         ensures range { IfOk result (IsFormOver self.now.given) }
     {
-        copy_of_form(alloc, f).map_err(memory_refusal)
+        Ok(copy_of_form(alloc, f)?)
     }
 
     fn apply_sum(

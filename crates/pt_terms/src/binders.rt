@@ -9,7 +9,7 @@ use crate::bindings::Bindings;
 use crate::elaborator::Elaborator;
 use crate::environment::Environment;
 use crate::meaning::{Bound, Sort};
-use crate::refusals::{memory_refusal, refused};
+use crate::refusals::refused;
 use pt_grammar::exprs::{is_symbol, items, name_in, place};
 use pt_grammar::words::is_reserved_word;
 use pt_syntax::{Position, ReadKind, ReadRefusal, SExpr};
@@ -179,8 +179,7 @@ pub(crate) fn bind_variables(
     ensures err { IfErr result (λ e. e ≡ no_memory_refusal) }
 {
     for x in variables {
-        env.bind(alloc, x.0, Bound::Variable(x.1, x.2))
-            .map_err(memory_refusal)?;
+        env.bind(alloc, x.0, Bound::Variable(x.1, x.2))?;
     }
     Ok(())
 }

@@ -17,7 +17,7 @@ ghost use Rattle.pt_terms.specs.Sound.{IsUseIn};
 use crate::arithmetic::{copy_of_bound, copy_of_meaning};
 use crate::bindings::Bindings;
 use crate::meaning::{Bound, Meaning, Sort};
-use crate::refusals::{memory_refusal, refused};
+use crate::refusals::refused;
 use crate::symbols::{Symbols, Use};
 use pt_digits::NoMemory;
 use pt_syntax::{Position, ReadKind, ReadRefusal};
@@ -131,7 +131,7 @@ fn copy_of(alloc: Global, bound: &Bound) -> Result<Bound, ReadRefusal>
     ensures says { (p : PositionValue) → Says (λ b. b) result (plain_bound p (use_of (Some bound.now) None)) }
     ensures same { IfOk result (λ b. b ≡ bound.now) }
 {
-    copy_of_bound(alloc, bound).map_err(memory_refusal)
+    Ok(copy_of_bound(alloc, bound)?)
 }
 
 /// What a live name stands for as a term of its own.
@@ -144,7 +144,7 @@ fn live_use(alloc: Global, found: Option<&Use>, at: Position) -> Result<Bound, R
         Some(Use::Constant(v, sort)) => Ok(Bound::Variable(*v, *sort)),
         Some(Use::Definition(parameters, _, meaning)) => {
             if parameters.is_empty() {
-                let copy = copy_of_meaning(alloc, meaning).map_err(memory_refusal)?;
+                let copy = copy_of_meaning(alloc, meaning)?;
                 Ok(Bound::Term(copy))
             } else {
                 Err(refused(ReadKind::Sort, at))

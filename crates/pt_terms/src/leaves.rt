@@ -4,7 +4,7 @@ use crate::elaborator::Elaborator;
 use crate::environment::Environment;
 use crate::meaning::{Bound, Meaning, Sort};
 use crate::numerals::number_at;
-use crate::refusals::{memory_refusal, refused};
+use crate::refusals::refused;
 use pt_grammar::exprs::{numeral, place, symbol};
 use pt_grammar::words::is;
 use pt_syntax::{Leaf, Position, ReadKind, ReadRefusal, SExpr};
@@ -82,7 +82,7 @@ impl Elaborator {
     {
         match bound {
             Bound::Variable(v, Sort::Int) => {
-                let form = form_of_variable(alloc, v).map_err(memory_refusal)?;
+                let form = form_of_variable(alloc, v)?;
                 Ok(Meaning::Int(form))
             }
             Bound::Variable(v, Sort::Bool) => {

@@ -1,9 +1,7 @@
 // Refusals at a place.
 ghost use Rattle.std.specs.Prelude.{◌≡◌};
-ghost use Rattle.pt_syntax.specs.Rest.{no_memory as no_memory_refusal};
 ghost use Rattle.pt_terms.specs.Gives.{IsRefusalOf, IsFormRefusal};
 
-use pt_digits::NoMemory;
 use pt_formula::{FormFault, FormulaFault, Position};
 use pt_syntax::{ReadKind, ReadRefusal, no_memory};
 
@@ -11,13 +9,6 @@ pub fn refused(kind: ReadKind, position: Position) -> ReadRefusal
     ensures { result ≡ record { kind = kind; position = position } }
 {
     ReadRefusal { kind, position }
-}
-
-/// The refusal for want of memory, which has no place of its own.
-pub fn memory_refusal(_fault: NoMemory) -> ReadRefusal
-    ensures { result ≡ no_memory_refusal }
-{
-    no_memory()
 }
 
 /// A builder's refusal, at the term.

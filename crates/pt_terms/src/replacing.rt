@@ -5,7 +5,6 @@ ghost use Rattle.pt_terms.specs.Theory.{replacement};
 use crate::arithmetic::form_of_variable;
 use crate::elaborator::Elaborator;
 use crate::meaning::Meaning;
-use crate::refusals::memory_refusal;
 use pt_formula::{Form, Position};
 use pt_syntax::ReadRefusal;
 use std::alloc::Global;
@@ -58,7 +57,7 @@ impl Elaborator {
             }
             Some(Meaning::Bool(_)) => unreachable!(),
             None => {
-                let f = form_of_variable(alloc, v).map_err(memory_refusal)?;
+                let f = form_of_variable(alloc, v)?;
                 let g = self.scale(alloc, by, &f, at)?;
                 self.sum(alloc, so_far, &g, at)
             }

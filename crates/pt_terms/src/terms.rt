@@ -5,7 +5,7 @@ use crate::bindings::Bindings;
 use crate::elaborator::Elaborator;
 use crate::environment::Environment;
 use crate::meaning::{Bound, Meaning};
-use crate::refusals::{memory_refusal, refused};
+use crate::refusals::refused;
 use pt_grammar::exprs::{items, items_in, place};
 use pt_grammar::forms::{fault_of_annotation, fault_of_let, fault_of_quantifier};
 use pt_grammar::words::{Head, head_of};
@@ -271,7 +271,7 @@ impl Elaborator {
         ensures err { IfErr result (λ e. e ≡ no_memory_refusal) }
     {
         let outer = env.len();
-        env.bind_all(alloc, names).map_err(memory_refusal)?;
+        env.bind_all(alloc, names)?;
         Ok(outer)
     }
 
@@ -370,9 +370,7 @@ impl Elaborator {
         let mut found = Bindings::new(alloc);
         for e in es {
             let (name, m) = self.binding(alloc, depth, env, &found, e)?;
-            found
-                .push(alloc, name, Bound::Term(m))
-                .map_err(memory_refusal)?;
+            found.push(alloc, name, Bound::Term(m))?;
         }
         Ok(found)
     }
